@@ -1,0 +1,5 @@
+pub mod EntryLemmas
+pub mod SizeLemmas
+pub mod CanonicalLemmas
+pub mod PackedLemmas
+pub mod PlaceLemmas

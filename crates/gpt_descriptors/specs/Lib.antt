@@ -1,0 +1,5 @@
+pub mod Sizes
+pub mod Entries
+pub mod Canonical
+pub mod Level0
+pub mod Places

@@ -1,0 +1,23 @@
+//! The descriptors of granule protection tables, the setup of a protected space with its sizes, and
+//! the places of the words that agents and processors share.
+//!
+//! Source: Arm Architecture Reference Manual (DDI 0487), granule protection tables. The places are
+//! this project's own. No call takes memory.
+#![tactic(auto)]
+
+mod entry;
+mod geometry;
+mod level0;
+mod places;
+mod setting;
+mod size;
+#[cfg(test)]
+mod tests;
+
+pub use entry::{L0Entry, L1Entry, decode_l0, decode_l1, encode_l0, encode_l1, gpi_at, reach_of};
+pub use geometry::Geometry;
+pub use gpi_values::{Gpi, Space};
+pub use level0::{is_table_word, l0_good};
+pub use places::places_are_distinct;
+pub use setting::{GEN_LAST, Setup};
+pub use size::{Generations, MaxBlock, Reach, Size, tag_size};
