@@ -1,0 +1,3 @@
+pub mod TableData
+pub mod Built
+pub mod Outcome
