@@ -1,0 +1,15 @@
+pub mod DigitLemmas
+pub mod FormLemmas
+pub mod NumeralLemmas
+pub mod Steps
+pub mod Named
+pub mod Cuts
+pub mod Drafting
+pub mod FieldReads
+pub mod LineFaults
+pub mod LineSpellings
+pub mod LinesAgain
+pub mod Accepting
+pub mod Texts
+pub mod Loop
+pub mod PrintLemmas

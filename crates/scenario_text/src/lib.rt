@@ -1,0 +1,32 @@
+//! Scenarios and their texts: the setup of a protected space, its regions, the agents and
+//! processors with their calls, and a schedule of their turns. Each scenario has one text.
+#![tactic(auto)]
+
+mod draft;
+mod fields;
+mod forming;
+mod laws;
+mod line;
+mod numeral;
+mod parsing;
+mod printing;
+#[cfg(test)]
+mod printing_tests;
+mod reading;
+mod scenario;
+mod standing;
+mod word;
+
+pub use forming::well_formed;
+pub use gpi_values::{Listed, Source, Space, World};
+pub use gpt_descriptors::{MaxBlock, Setup};
+pub use laws::texts_are_exact;
+pub use numeral::{address_of, count_of};
+pub use parsing::parse;
+pub use printing::print;
+pub use region_plan::{Kind, Region};
+pub use scenario::{Ask, Fault, Look, Scenario, Script, Slot, TextError};
+pub use word::Word;
+
+#[cfg(test)]
+mod tests;
