@@ -1,0 +1,102 @@
+ghost use Rattle.std.specs.Prelude.{◌≡◌, ◌+◌, ◌*◌, ◌<◌, ◌≤◌, ◌^◌, ◌++◌, IfOk, OnOk, string_bytes, length, codes};
+ghost use Rattle.std.specs.List.{flat_map};
+ghost use Rattle.gpt_descriptors.specs.Level0.{table_count};
+ghost use Rattle.report_text.specs.Runs.{runs_after, AreRunsMaximal};
+ghost use Rattle.report_text.specs.TablesText.{run_line, runs_text, tables_text, words_text, report_line, end_line, report_of_tables};
+
+use crate::level::Level;
+use gpt_descriptors::is_table_word;
+use std::alloc::{AllocError, Global};
+use table_build::Tables;
+
+/// Appends the line of a run.
+fn push_run(
+    out: &mut String,
+    level: Level,
+    first: u64,
+    count: u64,
+    word: u64,
+) -> Result<(), AllocError>
+    ensures { OnOk result (string_bytes out.new ≡ string_bytes out.old ++ run_line level (record { first = first; count = count; word = word })) }
+{
+    match level {
+        Level::Zero => write!(out, "l0 {first} {count} 0x{word:x}\n")?,
+        Level::One(table) => write!(out, "l1 {table} {first} {count} 0x{word:x}\n")?,
+    }
+    Ok(())
+}
+
+/// Appends the lines of the maximal runs of these words.
+fn push_runs(out: &mut String, level: Level, words: &[u64]) -> Result<(), AllocError>
+    ensures { OnOk result (string_bytes out.new ≡ string_bytes out.old ++ runs_text level words.now) }
+{
+    match words {
+        [] => Ok(()),
+        [word, rest @ ..] => push_runs_after(out, level, *word, rest),
+    }
+}
+
+/// Appends the lines of the maximal runs of a word and those behind it.
+fn push_runs_after(
+    out: &mut String,
+    level: Level,
+    start: u64,
+    rest: &[u64],
+) -> Result<(), AllocError>
+    requires { length rest.now + 1 < 2 ^ 64 }
+    ensures { OnOk result (string_bytes out.new ≡ string_bytes out.old ++ flat_map (run_line level) (runs_after 0 1 start rest.now)) }
+{
+    let mut first = 0;
+    let mut count = 1;
+    let mut word = start;
+    for &next in rest {
+        if next == word {
+            count += 1;
+        } else {
+            push_run(out, level, first, count, word)?;
+            first += count;
+            count = 1;
+            word = next;
+        }
+    }
+    push_run(out, level, first, count, word)
+}
+
+/// How many of these level 0 words name a level 1 table.
+fn count_tables(l0: &[u64]) -> usize
+    ensures { result ≡ table_count l0.now }
+{
+    l0.iter().filter(|word| is_table_word(**word)).count()
+}
+
+/// Appends the lines of `tables` level 1 tables of so many words each.
+fn push_tables(
+    out: &mut String,
+    size: usize,
+    words: &[u64],
+    tables: usize,
+) -> Result<(), AllocError>
+    requires { length words.now ≡ tables * size }
+    ensures { OnOk result (string_bytes out.new ≡ string_bytes out.old ++ tables_text size words.now 0 tables) }
+{
+    for k in 0..tables {
+        let table = &words[k * size..];
+        push_runs(out, Level::One(k as u64), &table[..size])?;
+    }
+    Ok(())
+}
+
+/// The text of tables: the level 0 words and the words of each level 1 table, as maximal runs.
+#[tactic(auto, using(crate::proofs::RunLemmas::runs_are_maximal), unfolding(crate::specs::TablesText::report_of_tables))]
+pub fn tables_report(alloc: Global, tables: &Tables) -> Result<Vec<u8>, AllocError>
+    ensures text { IfOk result (λ text. text.items ≡ report_of_tables tables.now) }
+    ensures runs { AreRunsMaximal }
+{
+    let mut out = String::new(alloc);
+    out.push_str("report 1 tables\n")?;
+    push_runs(&mut out, Level::Zero, tables.l0())?;
+    let size = tables.setup().table_words() as usize;
+    push_tables(&mut out, size, tables.l1(), count_tables(tables.l0()))?;
+    out.push_str("end\n")?;
+    Ok(out.into_bytes())
+}
