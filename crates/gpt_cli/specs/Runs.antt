@@ -1,0 +1,15 @@
+-- How a run ends: its status, and what the sink holds.
+use Rattle.std.specs.Prelude.{◌≡◌, ℕ, ◌<◌, ◌⊎◌, List, [], ◌∷◌, length, take, Option, codes}
+use Rattle.std.specs.Io.KnownBytes.{Appends}
+use Rattle.gpt_io.specs.Counts.{Rose}
+use Rattle.gpt_cli.specs.declared.reply.Reply.{Reply}
+
+-- the words that are a command
+abbrev pub IsCommand : List (List ℕ) → Type 0
+IsCommand words = words ≡ codes "tables" ∷ []
+
+-- The reply was written whole, or a write failed, the status is 4 and a proper front of the text was written.
+abbrev pub Delivers : Option (List ℕ) → Option (List ℕ) → ℕ → ℕ → Reply → ℕ → Type 0
+Delivers before after faults_before faults_after reply status =
+    ((status ≡ reply.status) × Appends before after reply.text × (faults_after ≡ faults_before))
+    ⊎ ((status ≡ 4) × Rose faults_before faults_after × (n : ℕ) × (n < length reply.text) × Appends before after (take n reply.text))

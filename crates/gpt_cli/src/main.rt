@@ -1,0 +1,45 @@
+//! The program: reads a scenario from standard input and writes its report to standard output.
+#![tactic(auto)]
+
+mod program;
+mod refusal;
+mod reply;
+#[cfg(test)]
+mod tests;
+
+use gpt_io::{StdSink, StdSource};
+pub use program::still;
+pub use reply::Reply;
+use std::alloc::{AllocError, Global};
+use std::env;
+use std::io::ErrorKind;
+use std::process::ExitCode;
+
+/// The status where memory runs out.
+const NO_MEMORY: u8 = 5;
+
+/// The words after the program's name. A word that isn't UTF-8 counts as no words at all.
+fn words(rt: &HostRuntime, alloc: Global) -> Result<Vec<String>, AllocError> {
+    match env::args(rt) {
+        Ok(words) => words.skip(1).collect(alloc),
+        Err(error) if error.kind() == ErrorKind::OutOfMemory => Err(AllocError),
+        Err(_) => Ok(Vec::new(alloc)),
+    }
+}
+
+/// Runs the program over the standard streams.
+fn run(rt: &HostRuntime, alloc: Global) -> Result<u8, AllocError> {
+    let words = words(rt, alloc)?;
+    let mut texts = Vec::new(alloc);
+    for word in &words {
+        texts.push(word.as_str())?;
+    }
+    let mut source = StdSource::new(rt.stdin());
+    let mut sink = StdSink::new(rt.stdout());
+    Ok(still(alloc, &texts, &mut source, &mut sink))
+}
+
+fn main(rt: HostRuntime) -> ExitCode {
+    let alloc = rt.alloc();
+    ExitCode::from(run(&rt, alloc).unwrap_or(NO_MEMORY))
+}

@@ -1,0 +1,8 @@
+use gpi_values::Listed;
+
+/// What the program replies: a status, and the text that it writes.
+#[derive(Debug, Drop)]
+pub struct Reply {
+    pub status: u8,
+    pub text: Listed<u8>,
+}

@@ -1,0 +1,153 @@
+use crate::program::still;
+use gpt_io::{MemorySink, MemorySource};
+use std::alloc::{AllocError, Global};
+use std::test::Fail;
+
+/// One gigabyte of Non-secure granules.
+const SCENARIO: &[u8] =
+    b"gpt 1\nspace 4\nmax 512\nlocks 1\nfirst 0\nring 8\ntables 1\nbase 0x80000000\n\
+region 0x0 0x40000000 granule nonsecure\nend\n";
+
+const REPORT: &[u8] = b"report 1 tables\nl0 0 1 0x80000003\nl0 1 3 0xf1\nl1 0 0 16384 0x391\nend\n";
+
+/// The same scenario with a base that no table can have.
+const BAD_BASE: &[u8] =
+    b"gpt 1\nspace 4\nmax 512\nlocks 1\nfirst 0\nring 8\ntables 1\nbase 0x80010000\n\
+region 0x0 0x40000000 granule nonsecure\nend\n";
+
+const BASE_LINE: &[u8] = b"base: 0x80010000\n";
+
+const USAGE: &[u8] = b"usage: gpt_cli tables | play | race | load N\n";
+
+/// A source of this text whose read of this number fails, counted from 1; for 0 none fails.
+fn source(alloc: Global, text: &[u8], failing: u64) -> Result<MemorySource, AllocError> {
+    Ok(MemorySource::new(text.to_vec(alloc)?, vec![in alloc; failing]?))
+}
+
+/// A sink that takes at most ten bytes in a write and so many in all, and whose write of this number
+/// fails, counted from 1; for 0 none fails.
+fn sink(alloc: Global, room: usize, failing: u64) -> Result<MemorySink, AllocError> {
+    MemorySink::new(alloc, 10, room, vec![in alloc; failing]?)
+}
+
+/// The status of a run over memory with these words.
+fn status(alloc: Global, words: &[&str], source: &mut MemorySource, sink: &mut MemorySink) -> u8 {
+    still(alloc, words, source, sink)
+}
+
+#[test]
+fn a_report_is_written_whole(rt: HostRuntime) -> Result<(), Fail> {
+    let alloc = rt.alloc();
+    let mut source = source(alloc, SCENARIO, 0)?;
+    let mut sink = sink(alloc, REPORT.len(), 0)?;
+    assert_eq!(rt; status(alloc, &["tables"], &mut source, &mut sink), 0);
+    assert_eq!(rt; sink.taken(), REPORT);
+    assert_eq!(rt; source.reads(), 2);
+    assert_eq!(rt; sink.writes(), 7);
+    Ok(())
+}
+
+#[test]
+fn a_failed_read_leaves_the_sink_empty(rt: HostRuntime) -> Result<(), Fail> {
+    let alloc = rt.alloc();
+    for failing in 1..=2u64 {
+        let mut source = source(alloc, SCENARIO, failing)?;
+        let mut sink = sink(alloc, REPORT.len(), 0)?;
+        assert_eq!(rt;
+            status(alloc, &["tables"], &mut source, &mut sink),
+            3,
+            "at {failing}"
+        );
+        assert_eq!(rt; source.reads(), failing);
+        assert_eq!(rt; sink.writes(), 0, "at {failing}");
+        assert!(rt; sink.taken().is_empty());
+    }
+    Ok(())
+}
+
+#[test]
+fn a_failed_write_cuts_the_text_where_it_comes(rt: HostRuntime) -> Result<(), Fail> {
+    let alloc = rt.alloc();
+    // Ten bytes at a time: the report takes seven writes and the line of a bad base two.
+    for (input, text, writes) in [(SCENARIO, REPORT, 7u64), (BAD_BASE, BASE_LINE, 2)] {
+        for failing in 1..=writes {
+            let mut source = source(alloc, input, 0)?;
+            let mut sink = sink(alloc, text.len(), failing)?;
+            assert_eq!(rt;
+                status(alloc, &["tables"], &mut source, &mut sink),
+                4,
+                "at {failing}"
+            );
+            assert_eq!(rt; sink.taken().len() as u64 + 10, 10 * failing);
+            assert!(rt; text.starts_with(sink.taken()), "at {failing}");
+            assert_eq!(rt; sink.writes(), failing);
+        }
+    }
+    Ok(())
+}
+
+#[test]
+fn a_full_sink_cuts_the_text_at_its_room(rt: HostRuntime) -> Result<(), Fail> {
+    let alloc = rt.alloc();
+    for (input, text, whole) in [(SCENARIO, REPORT, 0), (BAD_BASE, BASE_LINE, 1)] {
+        for room in 0..=text.len() {
+            let mut source = source(alloc, input, 0)?;
+            let mut sink = sink(alloc, room, 0)?;
+            let want = if room < text.len() { 4 } else { whole };
+            assert_eq!(rt;
+                status(alloc, &["tables"], &mut source, &mut sink),
+                want,
+                "at {room}"
+            );
+            assert_eq!(rt; sink.taken().len(), room);
+            assert!(rt; text.starts_with(sink.taken()), "at {room}");
+        }
+    }
+    Ok(())
+}
+
+#[test]
+fn words_that_are_no_command_read_nothing(rt: HostRuntime) -> Result<(), Fail> {
+    let alloc = rt.alloc();
+    let table: [&[&str]; 6] = [
+        &[],
+        &["table"],
+        &["tables", "tables"],
+        &["play"],
+        &["race"],
+        &["load", "01"],
+    ];
+    for words in table {
+        let mut source = source(alloc, SCENARIO, 1)?;
+        let mut whole = sink(alloc, USAGE.len(), 0)?;
+        let mut failing = sink(alloc, USAGE.len(), 1)?;
+        assert_eq!(rt; status(alloc, words, &mut source, &mut whole), 2);
+        assert_eq!(rt; whole.taken(), USAGE);
+        assert_eq!(rt; status(alloc, words, &mut source, &mut failing), 4);
+        assert!(rt; failing.taken().is_empty());
+        assert_eq!(rt; source.reads(), 0);
+    }
+    Ok(())
+}
+
+#[test]
+fn an_input_has_a_limit(rt: HostRuntime) -> Result<(), Fail> {
+    let alloc = rt.alloc();
+    let table = [
+        (1_048_576, "line 1: word\n", 257),
+        (1_048_577, "too long\n", 257),
+        (1_050_000, "too long\n", 257),
+    ];
+    for (length, line, reads) in table {
+        let mut source = MemorySource::new(vec![in alloc; b'\n'; length]?, Vec::new(alloc));
+        let mut sink = sink(alloc, 20, 0)?;
+        assert_eq!(rt;
+            status(alloc, &["tables"], &mut source, &mut sink),
+            1,
+            "of {length}"
+        );
+        assert_eq!(rt; sink.taken(), line.as_bytes());
+        assert_eq!(rt; source.reads(), reads, "of {length}");
+    }
+    Ok(())
+}
