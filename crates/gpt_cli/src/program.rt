@@ -104,8 +104,9 @@ pub fn still<S: Source, K: Sink>(alloc: Global, words: &[&str], source: &mut S, 
         × Replies bytes reply
         × Delivers (K.held sink.old) (K.held sink.new) (K.faults sink.old) (K.faults sink.new) reply result }
 
-    // Where it has no reply, nothing is written.
+    // Where it has no reply, nothing is written, and a failed read is told as one.
     ensures read_fault { result ≡ 3 → Rose (S.faults source.old) (S.faults source.new) }
+    ensures memory { result ≡ 5 → S.faults source.new ≡ S.faults source.old }
     ensures silent { (result ≡ 3) ⊎ (result ≡ 5)
         → IsCommand (map (λ word. word.now) words.now) × Keeps (K.held sink.old) (K.held sink.new) × (K.faults sink.new ≡ K.faults sink.old) }
     ensures limit { (bytes : List ℕ) × (length bytes ≤ INPUT_LIMIT + 1) × Consumes (S.left source.old) (S.left source.new) bytes }

@@ -15,7 +15,7 @@ pub packed-suc : (m : ℕ → Gpi) (first n : ℕ) → packed m first (suc n) �
 unfolding packed
 packed-suc m first n = refl
 
-four_more : (n : ℕ) → 2 ^ (4 * suc n) ≡ 16 * 2 ^ (4 * n)
+pub four_more : (n : ℕ) → 2 ^ (4 * suc n) ≡ 16 * 2 ^ (4 * n)
 four_more n = ap (λ (k : ℕ). 2 ^ k) (let e : 4 * suc n ≡ 4 + 4 * n = omega arith in e) ∙ pow-add 2 4 (4 * n)
 
 -- n fields are below 16 to the n

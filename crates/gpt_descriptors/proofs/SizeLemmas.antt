@@ -2,7 +2,7 @@
 use Rattle.std.proofs.Common.{◌≡◌, ℕ, ◌*◌, ◌^◌, ◌≤◌, ◌<◌, refl, arith}
 use Rattle.gpt_descriptors.specs.declared.size.Size.{Size}
 use Rattle.gpt_descriptors.specs.declared.size.Size.TheVariants as size
-use Rattle.gpt_descriptors.specs.Sizes.{SetupData, granule_bytes, word_bytes, words_of, table_words, table_bytes, size_bytes, region_bytes}
+use Rattle.gpt_descriptors.specs.Sizes.{SetupData, small_granule, granule_bytes, word_bytes, words_of, table_words, table_bytes, size_bytes, region_bytes}
 
 -- a granule has at least 4 KB and at most 64 KB
 pub granule_low : (s : SetupData) → 4096 ≤ granule_bytes s
@@ -12,6 +12,11 @@ granule_low s = omega arith
 pub granule_high : (s : SetupData) → granule_bytes s ≤ 65536
 unfolding granule_bytes
 granule_high s = omega arith
+
+-- every granule is a small one
+pub granule_is : (s : SetupData) → granule_bytes s ≡ small_granule
+unfolding granule_bytes
+granule_is s = refl
 
 pub word_is : (s : SetupData) → word_bytes s ≡ 16 * granule_bytes s
 unfolding word_bytes

@@ -42,9 +42,13 @@ size_bytes size.FiveTwelve = 2 ^ 29
 abbrev pub region_bytes : ℕ
 region_bytes = 2 ^ 30
 
+-- bytes of a granule of 4 KB, the one size of this profile
+abbrev pub small_granule : ℕ
+small_granule = 4096
+
 -- bytes of a granule
 unfoldable pub granule_bytes : SetupData → ℕ
-granule_bytes s = 4096
+granule_bytes s = small_granule
 
 -- bytes that one L1 word stands for: sixteen granules
 unfoldable pub word_bytes : SetupData → ℕ

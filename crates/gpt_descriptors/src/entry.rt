@@ -93,9 +93,9 @@ fn contiguous(word: u64) -> Option<L1Entry>
     Some(L1Entry::Contig(size, gpi))
 }
 
-#[tactic(auto, using(crate::proofs::EntryLemmas::knows_each))]
 /// The level 1 entry of a descriptor, or `None` exactly where the word is no level 1 descriptor
 /// (DDI 0487, GPT level 1 descriptors).
+#[tactic(auto, using(crate::proofs::EntryLemmas::knows_each))]
 pub fn decode_l1(word: u64) -> Option<L1Entry>
     ensures found { IfSome result (λ entry. IsL1 entry × (word ≡ l1_word entry)) }
     ensures none { IfNone result ((entry : L1Entry) → IsL1 entry → word ≢ l1_word entry) }
@@ -110,8 +110,8 @@ pub fn decode_l1(word: u64) -> Option<L1Entry>
     }
 }
 
-#[tactic(auto, using(crate::proofs::EntryLemmas::granules_entry))]
 /// The descriptor of a level 1 entry. Each field of a granules word is a known GPI.
+#[tactic(auto, using(crate::proofs::EntryLemmas::granules_entry))]
 pub fn encode_l1(entry: L1Entry) -> u64
     requires { IsL1 entry }
     ensures word { result ≡ l1_word entry }

@@ -1,12 +1,12 @@
-ghost use Rattle.std.specs.Prelude.{◌≡◌, ◌+◌, ◌-◌, ◌*◌, ◌/◌, ◌<◌, ◌≤◌, ◌++◌, ◌↔◌, true, false, IsTrue, IsSome, IsNone, IfSome, IfNone, nat_lt, length, replicate, count_by};
+ghost use Rattle.std.specs.Prelude.{◌≡◌, ◌+◌, ◌-◌, ◌*◌, ◌/◌, ◌<◌, ◌≤◌, ◌++◌, ◌↔◌, true, false, IsTrue, IsSome, IsNone, IfSome, IfNone, nat_lt, length, replicate};
 ghost use Rattle.gpt_descriptors.specs.Sizes.{space_bytes, size_bytes};
 ghost use Rattle.gpt_descriptors.specs.Entries.{l0_entry};
 ghost use Rattle.gpt_descriptors.specs.Level0.{is_l0_good, is_table, table_count};
 ghost use Rattle.gpt_descriptors.specs.Places.{IsGeometry, IsWordName, Generation, Duty, Level1, Line, place_of, word_count, l0_words, l1_words, gen_place_of, l1_index_of, l1_place_of, line_place_of, l0_word_of, block_gpi_of};
 
 use crate::entry::{L0Entry, decode_l0};
-use crate::level0::is_table_word;
-use crate::setting::Setup;
+use crate::level0::count_tables;
+use crate::setting::{REGION_BYTES, Setup};
 use crate::size::Size;
 use gpi_values::Gpi;
 use std::marker::Model;
@@ -33,13 +33,6 @@ impl Model for Geometry {
     ghost inverse = { λ g. record { setup = g.setup; cpus = g.cpus; l1_tables = g.l1_tables; l0 = g.l0 } };
 }
 
-/// The number of tables among these L0 words.
-fn tables_of(l0: &[u64]) -> usize
-    ensures { result ≡ table_count l0.now }
-{
-    l0.iter().filter(|word| is_table_word(**word)).count()
-}
-
 impl Geometry {
     ghost use Rattle.gpt_descriptors.specs.Places.{GeometryData};
 
@@ -59,7 +52,7 @@ impl Geometry {
         Geometry {
             setup,
             cpus,
-            l1_tables: tables_of(l0) as u64,
+            l1_tables: count_tables(l0) as u64,
             l0: words,
         }
     }
@@ -122,7 +115,7 @@ impl Geometry {
     pub fn inside(&self, pa: u64) -> bool
         ensures { result ≡ nat_lt pa (space_bytes self.now.setup) }
     {
-        pa >> 30 < self.setup.gigabytes()
+        pa / REGION_BYTES < self.setup.gigabytes()
     }
 
     /// The place of the generation of the block of this size around an address.
@@ -154,7 +147,7 @@ impl Geometry {
         ensures word { result ≡ l0_word_of self.now pa }
         ensures known { IsSome (l0_entry (l0_word_of self.now pa)) }
     {
-        self.l0[(pa >> 30) as usize]
+        self.l0[(pa / REGION_BYTES) as usize]
     }
 
     /// The address of the L1 table of an address, or `None` where its L0 entry is a block.

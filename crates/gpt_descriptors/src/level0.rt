@@ -1,5 +1,5 @@
 ghost use Rattle.std.specs.Prelude.{◌≡◌, ◌≤◌};
-ghost use Rattle.gpt_descriptors.specs.Level0.{is_l0_good, is_entry_good, is_table};
+ghost use Rattle.gpt_descriptors.specs.Level0.{is_l0_good, is_entry_good, is_table, table_count};
 ghost use Rattle.gpt_descriptors.specs.Entries.{l0_entry};
 
 use crate::entry::{L0Entry, decode_l0};
@@ -35,6 +35,13 @@ pub fn is_table_word(word: u64) -> bool
     ensures { result ≡ is_table word }
 {
     matches!(decode_l0(word), Some(L0Entry::Table(_)))
+}
+
+/// The number of tables among these L0 words.
+pub fn count_tables(l0: &[u64]) -> usize
+    ensures { result ≡ table_count l0.now }
+{
+    l0.iter().filter(|word| is_table_word(**word)).count()
 }
 
 /// Whether these are the L0 words of a protected space with this setup: there are `gigabytes` of

@@ -5,6 +5,7 @@
 //! this project's own. No call takes memory.
 #![tactic(auto)]
 
+mod canonical;
 mod entry;
 mod geometry;
 mod level0;
@@ -14,10 +15,11 @@ mod size;
 #[cfg(test)]
 mod tests;
 
+pub use canonical::canonical_words_mean_their_map;
 pub use entry::{L0Entry, L1Entry, decode_l0, decode_l1, encode_l0, encode_l1, gpi_at, reach_of};
 pub use geometry::Geometry;
 pub use gpi_values::{Gpi, Space};
-pub use level0::{is_table_word, l0_good};
+pub use level0::{count_tables, is_table_word, l0_good};
 pub use places::places_are_distinct;
-pub use setting::{GEN_LAST, Setup};
+pub use setting::{GEN_LAST, REGION_BYTES, Setup, small_granule};
 pub use size::{Generations, MaxBlock, Reach, Size, tag_size};

@@ -1,10 +1,22 @@
 ghost use Rattle.std.specs.Prelude.{◌≡◌, ◌*◌, ◌<◌, ◌≤◌, ◌^◌, ◌↔◌, IsSome, IfSome};
+ghost use Rattle.gpt_descriptors.specs.Sizes.{small_granule};
 
 use crate::size::{MaxBlock, Size};
 use std::marker::Model;
 
 /// The last value that a generation may reach.
 pub const GEN_LAST: u64 = 9223372036854775807;
+
+/// Bytes of what one L0 entry stands for: 1 GB.
+pub const REGION_BYTES: u64 = 1 << 30;
+
+/// Bytes of a granule of 4 KB, the one size of this profile.
+pub fn small_granule() -> u64
+    ensures value { result ≡ small_granule }
+    ensures range { (4096 ≤ result) × (result ≤ 65536) }
+{
+    4096
+}
 
 /// The setup of a protected space.
 #[derive(Clone, Copy, Debug)]
@@ -175,7 +187,7 @@ impl Setup {
         ensures value { result ≡ granule_bytes self.now }
         ensures range { (4096 ≤ result) × (result ≤ 65536) }
     {
-        4096
+        small_granule()
     }
 
     /// Bytes that an L1 word stands for: sixteen granules.
@@ -202,6 +214,6 @@ impl Setup {
         ensures value { result ≡ table_words self.now }
         ensures range { (1024 ≤ result) × (result ≤ 16384) }
     {
-        (1 << 30) / self.word_bytes()
+        REGION_BYTES / self.word_bytes()
     }
 }

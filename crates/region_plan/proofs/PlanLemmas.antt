@@ -1,16 +1,16 @@
 -- Going over regions and gigabytes one at a time.
-use Rattle.std.proofs.Common.{◌≡◌, ℕ, ◌+◌, ◌-◌, ◌≤◌, ◌<◌, Bool, true, false, cond, ltb, List, [], ◌∷◌, ◌++◌, length, get_or, take, drop, Option, Some, None, refl, sym, ap, ◌∙◌, add-one, length-append}
-use Rattle.std.specs.List.{position, find, AllByRecursion}
-use Rattle.std.proofs.lemmas.Bool.{ltb-false}
+use Rattle.std.proofs.Common.{◌≡◌, ℕ, ◌+◌, ◌-◌, ◌≤◌, ◌<◌, Bool, true, false, cond, ltb, List, [], ◌∷◌, ◌++◌, length, get_or, take, drop, Option, Some, None, refl, sym, ap, ◌∙◌, add-one, inl, inr, arith, length-append}
+use Rattle.std.specs.List.{position, position_or_len, find, AllByRecursion}
+use Rattle.std.proofs.lemmas.Bool.{cases_Bool, ltb-false}
 use Rattle.std.proofs.lemmas.List.Folds.{find-append}
-use Rattle.std.specs.Option.{option_or}
+use Rattle.std.specs.Option.{option_map, option_or}
 use Rattle.std.proofs.lemmas.List.{drop_more, take_rest, take_more, take_all}
 use Rattle.gpt_descriptors.specs.Sizes.{SetupData}
 use Rattle.region_plan.specs.declared.region.Region.{Region}
 use Rattle.region_plan.specs.declared.refusing.PlanError.{PlanError}
 use Rattle.region_plan.specs.declared.refusing.PlanError.TheVariants as refused
 use Rattle.region_plan.specs.Regions.{needs_table, tabled_below, tables_needed, is_in, gpi_or_any, region_map}
-use Rattle.region_plan.specs.Refusals.{do_share, first_overlap, where_true, first_some, rules, refusal}
+use Rattle.region_plan.specs.Refusals.{is_no_block, do_share, first_overlap, where_true, first_some, rules, refusal}
 
 rest : (xs : List Region) (i : ℕ) → take (length xs - (i + 1)) (drop (i + 1) xs) ≡ drop (i + 1) xs
 rest xs i = take_rest xs (i + 1)
@@ -83,3 +83,28 @@ accepted_tables s regions e =
     let each = none_fails (rules s regions) e in
     ltb-false s.tables (tables_needed s regions)
     (where_none (ltb s.tables (tables_needed s regions)) (refused.NoTables (tables_needed s regions)) each.1.1.1.1.1.1.0)
+
+map_none : {A B : Type 0} (f : A → B) (o : Option A) → option_map f o ≡ None → o ≡ None
+map_none f (Some x) e = absurd cc
+map_none f None e = refl
+
+cond_none : (b : Bool) (n : ℕ) → cond b (Some n) None ≡ None → b ≡ false
+cond_none true n e = absurd cc
+cond_none false n e = refl
+
+none_passes : (p : Region → Bool) (xs : List Region) → length xs ≤ position_or_len p xs → AllByRecursion (λ r. p r ≡ false) xs
+none_passes p [] le = tt
+none_passes p (x ∷ xs) le =
+    elim (cases_Bool (p x)) [
+      | inl one ↦ absurd (let least = rw one at le in omega arith)
+      | inr none ↦ (none, none_passes p xs (let least = rw none at le in omega arith))
+    ]
+
+-- each accepted block region is aligned to gigabytes
+pub accepted_blocks : (s : SetupData) (regions : List Region) → refusal s regions ≡ None → AllByRecursion (λ r. is_no_block r ≡ false) regions
+unfolding refusal
+accepted_blocks s regions e =
+    let each = none_fails (rules s regions) e in
+    none_passes is_no_block regions
+    (ltb-false (position_or_len is_no_block regions) (length regions)
+    (cond_none _ (position_or_len is_no_block regions) (map_none refused.NotBlock (position is_no_block regions) each.1.1.1.1.0)))

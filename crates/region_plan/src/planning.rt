@@ -1,4 +1,4 @@
-ghost use Rattle.std.specs.Prelude.{◌≡◌, ℕ, ◌+◌, ◌*◌, ◌/◌, ◌<◌, ◌≤◌, IsTrue, IfSome, IfNone, IfOk, IfErr, OnOk, None, is_some, ◌-◌, ◌^◌};
+ghost use Rattle.std.specs.Prelude.{◌≡◌, ℕ, ◌+◌, ◌*◌, ◌/◌, ◌<◌, ◌≤◌, IsTrue, IfSome, IfNone, IfOk, IfErr, OnOk, None, Some, ◌⊎◌, is_some, ◌-◌, ◌^◌};
 ghost use Rattle.std.specs.List.{find};
 ghost use Rattle.gpt_descriptors.specs.Sizes.{SetupData, granule_bytes, space_bytes, space_granules};
 ghost use Rattle.gpt_descriptors.specs.Canonical.{one_gpi};
@@ -127,11 +127,13 @@ fn common_gpi(setup: &Setup, regions: &[Region], first: u64, end: u64) -> Option
 
 impl Plan {
     /// Holds the regions against the setup: the plan, or the first rule that refuses them. Each
-    /// region's base and size are bytes; indices count from 0. At most 256 regions are accepted.
+    /// region's base and size are bytes; indices count from 0. At most 256 regions are accepted. Want of
+    /// memory is answered only where no rule refuses them.
     pub fn plan(alloc: Global, regions: &[Region], setup: &Setup) -> Result<Plan, PlanError>
         ensures plan { IfOk result (λ p. p ≡ record { setup = setup.now; regions = regions.now }) }
         ensures accepted { OnOk result (refusal setup.now regions.now ≡ None) }
         ensures refused { IfErr result (λ e. IsRefusal e (refusal setup.now regions.now)) }
+        ensures told { IfErr result (λ e. (refusal setup.now regions.now ≡ None) ⊎ (refusal setup.now regions.now ≡ Some e)) }
     {
         if let Some(error) = first_refusal(setup, regions) {
             return Err(error);

@@ -5,11 +5,8 @@ ghost use Rattle.region_plan.specs.Regions.{is_granule_kind, touches, needs_tabl
 ghost use Rattle.region_plan.specs.Refusals.{is_unaligned, is_outside, is_no_block, do_share, first_overlap, refusal};
 
 use crate::region::{Kind, Region};
-use gpt_descriptors::Setup;
+use gpt_descriptors::{REGION_BYTES, Setup};
 use std::alloc::AllocError;
-
-/// Bytes of what one L0 entry stands for.
-const REGION_BYTES: u64 = 1 << 30;
 
 /// The most regions of a list.
 const REGION_LIMIT: usize = 256;

@@ -46,6 +46,13 @@ impl RunMap {
         Ok(RunMap { granules })
     }
 
+    /// How many granules the map has.
+    pub fn size(&self) -> u64
+        ensures { result ≡ length self.now }
+    {
+        self.granules.len() as u64
+    }
+
     /// The GPI of a granule below the size.
     pub fn get(&self, granule: u64) -> Gpi
         requires { granule < length self.now }

@@ -1,11 +1,10 @@
 ghost use Rattle.std.specs.Prelude.{◌≡◌, ◌+◌, ◌*◌, ◌<◌, ◌≤◌, ◌^◌, ◌++◌, IfOk, OnOk, string_bytes, length, codes};
 ghost use Rattle.std.specs.List.{flat_map};
-ghost use Rattle.gpt_descriptors.specs.Level0.{table_count};
 ghost use Rattle.report_text.specs.Runs.{runs_after, AreRunsMaximal};
 ghost use Rattle.report_text.specs.TablesText.{run_line, runs_text, tables_text, words_text, report_line, end_line, report_of_tables};
 
 use crate::level::Level;
-use gpt_descriptors::is_table_word;
+use gpt_descriptors::count_tables;
 use std::alloc::{AllocError, Global};
 use table_build::Tables;
 
@@ -60,13 +59,6 @@ fn push_runs_after(
         }
     }
     push_run(out, level, first, count, word)
-}
-
-/// How many of these level 0 words name a level 1 table.
-fn count_tables(l0: &[u64]) -> usize
-    ensures { result ≡ table_count l0.now }
-{
-    l0.iter().filter(|word| is_table_word(**word)).count()
 }
 
 /// Appends the lines of `tables` level 1 tables of so many words each.

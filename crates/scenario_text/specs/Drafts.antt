@@ -1,4 +1,5 @@
--- A scenario as far as its lines have been read.
+-- A scenario as far as its lines have been read, for the reader's inner contracts: no public contract
+-- names it, and nobody has to believe it.
 use Rattle.std.specs.Prelude.{List, [], ◌∷◌, ◌++◌, Option, Some, None}
 use Rattle.gpt_descriptors.specs.declared.size.MaxBlock.TheVariants as most
 use Rattle.gpt_descriptors.specs.Sizes.{SetupData}

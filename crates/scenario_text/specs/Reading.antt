@@ -1,4 +1,5 @@
--- Reading the lines of a text from left to right, with the first fault that is met, over lists.
+-- Reading the lines of a text from left to right, with the first fault that is met, over lists. It follows
+-- the reader's steps and serves its inner contracts: no public contract names it, and nobody has to believe it.
 use Rattle.std.specs.Prelude.{◌≡◌, ℕ, ◌+◌, ◌*◌, ◌<◌, ◌≤◌, ◌^◌, ◌⊎◌, Bool, true, List, [], ◌∷◌, length, Option, Some, None, Result, Ok, Err, ◌==◌, ◌||◌, ◌&&◌, nat_lt, nat_le, codes, if◌then◌else◌}
 use Rattle.std.specs.List.{find, slice_split}
 use Rattle.std.specs.Option.{ok_or}

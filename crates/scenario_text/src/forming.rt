@@ -4,7 +4,7 @@ ghost use Rattle.gpt_descriptors.specs.Sizes.{IsSetup};
 ghost use Rattle.scenario_text.specs.Spelling.{WellFormed, IsRegion, IsAsk, IsScript, IsSlot, turns_of, caller_limit, turn_limit};
 
 use crate::scenario::{Ask, Look, Scenario, Script, Slot};
-use gpt_descriptors::Setup;
+use gpt_descriptors::{REGION_BYTES, Setup};
 use region_plan::Region;
 
 /// The most callers of a scenario.
@@ -84,7 +84,7 @@ fn script_good(setup: &Setup, script: &Script) -> bool
 {
     match script {
         Script::Agent(asks) => asks_fit(asks.as_slice()),
-        Script::Cpu(looks) => looks_inside(setup.gigabytes() << 30, looks.as_slice()),
+        Script::Cpu(looks) => looks_inside(setup.gigabytes() * REGION_BYTES, looks.as_slice()),
     }
 }
 

@@ -24,8 +24,8 @@ fn pushed(base: u64, value: u64, byte: u8) -> Option<u64>
     value.checked_mul(base)?.checked_add(last)
 }
 
-#[tactic(auto, using(crate::proofs::DigitLemmas::rest_stops_at, crate::proofs::DigitLemmas::rest_ends_at))]
 /// The number that digits spell, if it is below 2^64. It stops at the first digit that passes that.
+#[tactic(auto, using(crate::proofs::DigitLemmas::rest_stops_at, crate::proofs::DigitLemmas::rest_ends_at))]
 fn value(base: u64, digits: &[u8]) -> Option<u64>
     requires { (base ≡ 10) ⊎ (base ≡ 16) }
     ensures { result ≡ (if list_all (is_digit_of base) digits.now && nat_lt (value_in base digits.now) (2 ^ 64) then Some (value_in base digits.now) else None) }
@@ -59,8 +59,8 @@ pub fn count_of(field: &[u8]) -> Option<u64>
     numeral(10, field)
 }
 
-#[tactic(auto, unfolding(crate::specs::Numerals::address_in))]
 /// The number of a field that is 0x and a numeral.
+#[tactic(auto, unfolding(crate::specs::Numerals::address_in))]
 fn prefixed(field: &[u8]) -> Option<u64>
     ensures { result ≡ address_in field.now }
 {

@@ -182,12 +182,12 @@ fn slot_lines(out: &mut String, schedule: &[Slot]) -> Result<(), AllocError>
     Ok(())
 }
 
-#[tactic(auto, using(crate::proofs::PrintLemmas::text_parts))]
 /// The one text of a scenario: its lines in their order, each ended by a line feed.
 ///
 /// # Errors
 ///
 /// Memory ran out.
+#[tactic(auto, using(crate::proofs::PrintLemmas::text_parts))]
 pub fn print(alloc: Global, scenario: &Scenario) -> Result<Vec<u8>, AllocError>
     requires { WellFormed scenario.now }
     ensures { IfOk result (λ v. v.items ≡ text_of scenario.now) }

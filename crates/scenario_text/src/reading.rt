@@ -13,11 +13,8 @@ use crate::line::Line;
 use crate::scenario::{Ask, Fault, Look, Slot};
 use crate::standing::{Place, Standing, stands};
 use crate::word::{Verb, Word, word_of_field};
-use gpt_descriptors::{GEN_LAST, MaxBlock};
+use gpt_descriptors::{GEN_LAST, MaxBlock, REGION_BYTES};
 use region_plan::Region;
-
-/// Bytes of a gigabyte.
-const GIGABYTE: u64 = 1 << 30;
 
 #[tactic(auto, unfolding(crate::specs::Reading::one_count))]
 fn only_count(rest: Option<&[u8]>) -> Result<u64, Fault>
@@ -185,7 +182,7 @@ fn look(standing: Standing, rest: Option<&[u8]>) -> Result<Line, Fault>
 {
     let (first, second) = two_fields(rest)?;
     let pa = address(first)?;
-    if pa >= standing.gigabytes * GIGABYTE {
+    if pa >= standing.gigabytes * REGION_BYTES {
         return Err(Fault::Value);
     }
     let space = space(second)?;

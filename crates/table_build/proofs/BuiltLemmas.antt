@@ -70,7 +70,7 @@ table_page s regions k good = pages (s.base + k * table_bytes s) (table_bytes s)
 
 -- ---- the level 0 words are good
 
-entry_good : (s : SetupData) (regions : List Region) (q : ℕ) → is_bad_base s regions ≡ false → tables_needed s regions ≤ s.tables → q < s.gigabytes
+pub entry_good : (s : SetupData) (regions : List Region) (q : ℕ) → is_bad_base s regions ≡ false → tables_needed s regions ≤ s.tables → q < s.gigabytes
     → (is_entry_good s (tables_below regions q) (l0_entry (l0_word (region_entry s regions q))) ≡ true) × (is_table (l0_word (region_entry s regions q)) ≡ needs_table regions q)
 entry_good s regions q good few lt =
     elim (cases_Bool (needs_table regions q)) [
@@ -116,7 +116,7 @@ l0_is_good s regions good few =
 
 -- ---- as many tables as gigabytes that need one
 
-count_words : (s : SetupData) (regions : List Region) (n : ℕ) → is_bad_base s regions ≡ false → tables_needed s regions ≤ s.tables → n ≤ s.gigabytes
+pub count_words : (s : SetupData) (regions : List Region) (n : ℕ) → is_bad_base s regions ≡ false → tables_needed s regions ≤ s.tables → n ≤ s.gigabytes
     → table_count (words_from s regions 0 n) ≡ tables_below regions n
 count_words s regions zero good few le = sym (ap length (tabled_none regions))
 count_words s regions (suc n) good few le =
@@ -133,7 +133,7 @@ l0_tables s regions good few = count_words s regions s.gigabytes good few (omega
 
 -- ---- the words of the tables
 
-length_each : (f : ℕ → List ℕ) (k : ℕ) (xs : List ℕ) → ((x : ℕ) → length (f x) ≡ k) → length (flat_map f xs) ≡ length xs * k
+pub length_each : (f : ℕ → List ℕ) (k : ℕ) (xs : List ℕ) → ((x : ℕ) → length (f x) ≡ k) → length (flat_map f xs) ≡ length xs * k
 length_each f k [] each = omega arith
 length_each f k (x ∷ xs) each = length-append (f x) (flat_map f xs) ∙ rw (each x, length_each f k xs each) (omega arith)
 

@@ -3,10 +3,12 @@
 
 mod blocks;
 mod building;
+mod law;
 mod tables;
 #[cfg(test)]
 mod tests;
 
 pub use building::{BuildError, build};
+pub use law::built_tables_mean_the_map;
 pub use region_plan::{Plan, Setup};
 pub use tables::Tables;
