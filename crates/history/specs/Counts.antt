@@ -1,0 +1,60 @@
+-- The generations of a history: how often the granules of a region were changed.
+use Rattle.std.specs.Prelude.{◌≡◌, ℕ, ◌+◌, ◌-◌, ◌*◌, ◌/◌, Bool, true, false, ◌&&◌, List, [], ◌∷◌, ◌++◌, count_by, ◌==◌, nat_lt, Some}
+use Rattle.std.specs.List.{find}
+use Rattle.gpi_values.specs.declared.gpi.Gpi.{Gpi}
+use Rattle.gpt_descriptors.specs.declared.size.Size.{Size}
+use Rattle.gpt_descriptors.specs.declared.size.Size.TheVariants as size
+use Rattle.gpt_descriptors.specs.declared.size.Generations.{Generations}
+use Rattle.gpt_descriptors.specs.Sizes.{generation_last, size_bytes}
+use Rattle.history.specs.declared.entry.Entry.{Entry}
+use Rattle.history.specs.declared.entry.Entry.TheVariants as entry
+use Rattle.history.specs.Entries.{granule_in, caller_in, call_in}
+
+-- the region of this size around a granule, granules having so many bytes
+abbrev pub region_of : ℕ → Size → ℕ → ℕ
+region_of bytes z granule = granule * bytes / size_bytes z
+
+abbrev pub is_change : Entry → Bool
+is_change (entry.Changed caller call granule from to) = true
+is_change e = false
+
+abbrev pub is_completion : Entry → Bool
+is_completion (entry.Settled caller call granule) = true
+is_completion e = false
+
+-- the count of a region: the first generation and one for each change of a granule in it
+abbrev pub count_of : ℕ → ℕ → Size → ℕ → List Entry → ℕ
+count_of first bytes z region h =
+    first + count_by (λ e. is_change e && (region_of bytes z (granule_in e) == region)) h
+
+-- the counts of the regions around a granule
+abbrev pub counts_around : ℕ → ℕ → ℕ → List Entry → Generations
+counts_around first bytes granule h = record {
+  two = count_of first bytes size.Two (region_of bytes size.Two granule) h;
+  thirty_two = count_of first bytes size.ThirtyTwo (region_of bytes size.ThirtyTwo granule) h;
+  five_twelve = count_of first bytes size.FiveTwelve (region_of bytes size.FiveTwelve granule) h;
+}
+
+abbrev pub is_by : ℕ → ℕ → Entry → Bool
+is_by c k e = (caller_in e == c) && (call_in e == k)
+
+-- A transition that is done tells the counts around its granule up to and with its last completion.
+pub record AreDoneCounts (first bytes c k granule : ℕ) (told : Generations) (h : List Entry) : Type 0 where
+  pub before : List Entry
+  pub after : List Entry
+  pub parts : h ≡ before ++ entry.Settled c k granule ∷ after
+  pub last : count_by (λ e. is_completion e && is_by c k e) after ≡ 0
+  pub counts : told ≡ counts_around first bytes granule before
+
+-- too near to the last generation for a transition, which raises each up to twice
+abbrev pub is_worn : ℕ → Bool
+is_worn value = nat_lt (generation_last - 2) value
+
+-- A transition that is refused for a worn generation tells the first such size, and its count before the refusal.
+pub record IsWornCount (first bytes c k granule : ℕ) (z : Size) (value : ℕ) (h : List Entry) : Type 0 where
+  pub before : List Entry
+  pub after : List Entry
+  pub found : Gpi
+  pub parts : h ≡ before ++ entry.Refused c k granule found ∷ after
+  pub first_worn : find (λ y. is_worn (count_of first bytes y (region_of bytes y granule) before)) (size.Two ∷ size.ThirtyTwo ∷ size.FiveTwelve ∷ []) ≡ Some z
+  pub counted : value ≡ count_of first bytes z (region_of bytes z granule) before

@@ -1,0 +1,5 @@
+pub mod Entries
+pub mod States
+pub mod Legality
+pub mod Calls
+pub mod Counts

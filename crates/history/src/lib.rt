@@ -1,0 +1,21 @@
+//! Histories of a plain map from granule to GPI: what callers ask and are answered, the entries that
+//! tell of it, which entries are legal in which state, and a replay that tests them one by one.
+#![tactic(auto)]
+
+mod call;
+mod entry;
+mod judging;
+mod law;
+mod outcome;
+mod replay;
+#[cfg(test)]
+mod tests;
+
+pub use call::{Access, Answer, Task, Via};
+pub use entry::Entry;
+pub use gpi_values::{Gpi, Source, Space};
+pub use gpt_descriptors::{Generations, Geometry, Reach, Size};
+pub use law::settled_means_final;
+pub use outcome::Outcome;
+pub use region_plan::RunMap;
+pub use replay::Replay;
