@@ -1,0 +1,3 @@
+pub mod DecidingLemmas
+pub mod AgentLemmas
+pub mod ScriptLemmas

@@ -1,0 +1,67 @@
+ghost use Rattle.std.specs.Prelude.{◌≡◌, ◌<◌, ◌^◌, IsTrue, IsSome, is_some};
+ghost use Rattle.gpt_descriptors.specs.Entries.{l1_entry};
+ghost use Rattle.history.specs.Legality.{needed};
+ghost use Rattle.delegate_ops.specs.Deciding.{address_of, is_unusable, idle_answer, is_needed, looked_answer};
+
+use gpi_values::{Gpi, nibble, own};
+use gpt_descriptors::{Geometry, gpi_at};
+use history::{Answer, Task};
+
+/// The byte address of a task.
+pub fn address_of(task: Task) -> u64
+    ensures { result ≡ address_of task }
+{
+    match task {
+        Task::Delegate(pa, _) | Task::Undelegate(pa, _) | Task::Look(pa, _) => pa,
+        Task::Unknown => 0,
+    }
+}
+
+/// Whether the address isn't aligned to a granule, isn't in the protected space, or has an L0 block.
+fn is_unusable(geometry: &Geometry, pa: u64) -> bool
+    ensures { result ≡ is_unusable geometry.now pa }
+{
+    pa % geometry.setup().granule_bytes() != 0
+        || !geometry.inside(pa)
+        || geometry.block_gpi(pa).is_some()
+}
+
+/// The answer of a task that has no acts.
+pub fn idle_answer(geometry: &Geometry, task: Task) -> Option<Answer>
+    ensures { result ≡ idle_answer geometry.now task }
+{
+    match task {
+        Task::Unknown => Some(Answer::Unknown),
+        Task::Delegate(pa, _) | Task::Undelegate(pa, _) | Task::Look(pa, _) => {
+            if is_unusable(geometry, pa) {
+                Some(Answer::Inval)
+            } else {
+                None
+            }
+        }
+    }
+}
+
+/// Whether this GPI is the one that the transition needs.
+fn is_needed(task: Task, found: Gpi) -> bool
+    ensures { result ≡ is_needed (needed task) found }
+{
+    match task {
+        Task::Delegate(..) => nibble(found) == nibble(Gpi::NonSecure),
+        Task::Undelegate(_, source) => nibble(found) == nibble(own(source)),
+        Task::Unknown | Task::Look(..) => false,
+    }
+}
+
+/// What a transition is answered that loads this L1 word under the lock, or `None` where it finds the
+/// GPI that it needs.
+pub fn looked_answer(geometry: &Geometry, task: Task, word: u64) -> Option<Answer>
+    requires { IsTrue (is_some (l1_entry word)) }
+    ensures { result ≡ looked_answer geometry.now task word }
+{
+    let place = address_of(task) / geometry.setup().granule_bytes() % 16;
+    match gpi_at(word, place) {
+        Some(found) if !is_needed(task, found) => Some(Answer::Perm(found)),
+        _ => None,
+    }
+}

@@ -1,0 +1,15 @@
+//! Transitions as acts: an agent goes through a list of delegates and undelegates, one act on the
+//! shared words at a time (TF-A, `gpt_delegate_pas` and `gpt_undelegate_pas`).
+#![tactic(auto)]
+
+mod agent;
+mod deciding;
+mod script;
+mod stage;
+#[cfg(test)]
+mod tests;
+
+pub use agent::Agent;
+pub use history::{Answer, Task};
+pub use script::steps_walk_the_script;
+pub use stage::Stage;
