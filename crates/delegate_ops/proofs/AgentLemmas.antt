@@ -1,5 +1,5 @@
 -- Agents after an act are agents.
-use Rattle.std.proofs.Common.{◌≡◌, ℕ, zero, suc, ◌+◌, ◌≤◌, ◌<◌, ◌++◌, ◌∷◌, [], List, true, false, cond, eqb, Some, None, Option, length, drop, refl, sym, ap, ◌∙◌, subst, arith, inl, inr, length-append, length-drop}
+use Rattle.std.proofs.Common.{◌≡◌, ℕ, zero, suc, ◌+◌, ◌≤◌, ◌<◌, ◌++◌, ◌∷◌, [], List, eqb, Some, None, Option, length, drop, refl, sym, ap, ◌∙◌, subst, arith, inl, inr, length-append, length-drop}
 use Rattle.std.specs.Prelude.{slice_get}
 use Rattle.std.specs.Int.Bits.{bit_and}
 use Rattle.std.proofs.lemmas.Bool.{cases_Bool}
@@ -40,10 +40,10 @@ get_drop (t ∷ tasks) (suc n) i = get_drop tasks n i ∙ ap (slice_get (t ∷ t
 -- ---- steps
 
 pub goes_is_agent : (a : AgentData) (s : Stage) → IsAgent a → IsAgent (goes_to a s)
-goes_is_agent a s is = record { geometry = is.geometry; few = is.few; no_looks = is.no_looks; answered = is.answered; acts = is.acts }
+goes_is_agent a s is = record { geometry = is.geometry; no_looks = is.no_looks; answered = is.answered; acts = is.acts }
 
 pub waits_is_agent : (a : AgentData) → IsAgent a → IsAgent (waits_at a)
-waits_is_agent a is = record { geometry = is.geometry; few = is.few; no_looks = is.no_looks; answered = is.answered; acts = is.acts }
+waits_is_agent a is = record { geometry = is.geometry; no_looks = is.no_looks; answered = is.answered; acts = is.acts }
 
 pub answer_is_agent : (a : AgentData) (t : Task) (answer : Answer) → IsAgent a → task_of a ≡ Some t → IsAgent (after_answer a answer)
 answer_is_agent a t answer is under_way =
@@ -53,7 +53,6 @@ answer_is_agent a t answer is under_way =
     length-append (a.answers ++ answer ∷ []) (idle_answers a.geometry rest) ∙ ap (λ (n : ℕ). n + length (idle_answers a.geometry rest)) (length-append a.answers (answer ∷ [])) in
     record {
       geometry = is.geometry;
-      few = is.few;
       no_looks = is.no_looks;
       answered = omega (arith, count, within, idle_few a.geometry rest, length-drop (length a.answers + 1) a.tasks);
       acts = subst (HasActs a.geometry) (get_drop a.tasks (length a.answers + 1) (length (idle_answers a.geometry rest)) ∙ ap (slice_get a.tasks) (sym count)) (idle_then_acts a.geometry rest);

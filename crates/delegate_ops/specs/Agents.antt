@@ -1,5 +1,5 @@
 -- An agent as plain data, its next act, and the agent after an act.
-use Rattle.std.specs.Prelude.{◌≡◌, ℕ, ◌+◌, ◌≤◌, ◌<◌, ◌^◌, Bool, true, false, List, [], ◌∷◌, ◌++◌, length, drop, slice_get, Option, Some, None, ◌==◌, if◌then◌else◌, IsTrue, is_some, option_and_then}
+use Rattle.std.specs.Prelude.{◌≡◌, ℕ, ◌+◌, ◌≤◌, Bool, true, false, List, [], ◌∷◌, ◌++◌, length, drop, slice_get, Option, Some, None, ◌==◌, if◌then◌else◌, IsTrue, is_some, option_and_then}
 use Rattle.std.specs.List.{All}
 use Rattle.std.specs.Option.{option_map}
 use Rattle.std.specs.Int.Bits.{bit_and}
@@ -112,7 +112,6 @@ HasActs g (Some t) = idle_answer g t ≡ None
 
 pub record IsAgent (a : AgentData) : Type 0 where
   pub geometry : IsGeometry a.geometry
-  pub few : length a.tasks < 2 ^ 32
   pub no_looks : All (λ t. is_look t ≡ false) a.tasks
   pub answered : length a.answers ≤ length a.tasks
   pub acts : HasActs a.geometry (task_of a)

@@ -68,7 +68,6 @@ fn answer_idle(geometry: &Geometry, tasks: &[Task], answers: &mut Vec<Answer>)
 impl Agent {
     /// An agent before its first act. Its leading tasks without acts are answered.
     pub fn new(alloc: Global, geometry: Geometry, tasks: Vec<Task>) -> Result<Agent, AllocError>
-        requires few { length tasks.items < 2 ^ 32 }
         requires no_looks { All (λ t. is_look t ≡ false) tasks.items }
         ensures { IfOk result (λ a. a ≡ fresh geometry tasks.items) }
     {

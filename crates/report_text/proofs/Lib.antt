@@ -1,2 +1,5 @@
 pub mod RunLemmas
 pub mod TextLemmas
+pub mod AnswerLemmas
+pub mod CallerLemmas
+pub mod StateLemmas

@@ -1,2 +1,4 @@
 pub mod Runs
 pub mod TablesText
+pub mod RunText
+pub mod RunParts

@@ -26,7 +26,7 @@ fn push_run(
 }
 
 /// Appends the lines of the maximal runs of these words.
-fn push_runs(out: &mut String, level: Level, words: &[u64]) -> Result<(), AllocError>
+pub fn push_runs(out: &mut String, level: Level, words: &[u64]) -> Result<(), AllocError>
     ensures { OnOk result (string_bytes out.new ≡ string_bytes out.old ++ runs_text level words.now) }
 {
     match words {
@@ -62,7 +62,7 @@ fn push_runs_after(
 }
 
 /// Appends the lines of `tables` level 1 tables of so many words each.
-fn push_tables(
+pub fn push_tables(
     out: &mut String,
     size: usize,
     words: &[u64],

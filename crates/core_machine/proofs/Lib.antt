@@ -1,0 +1,10 @@
+pub mod ListLemmas
+pub mod LockLemmas
+pub mod TableLemmas
+pub mod ToldLemmas
+pub mod ActLemmas
+pub mod LawLemmas
+pub mod MachineLemmas
+pub mod CallLemmas
+pub mod OpeningLemmas
+pub mod PlayLemmas

@@ -1,0 +1,127 @@
+-- A scenario's machine before the first act, and what its turns leave.
+use Rattle.std.proofs.Common.{◌≡◌, ℕ, ◌++◌, ◌∷◌, [], List, ◌-◌, map, replicate, length, take, false, Option, Some, None, refl, sym, ap, ◌∙◌, subst}
+use Rattle.std.specs.Prelude.{slice_get, Result, Ok, Err, IfOk}
+use Rattle.std.specs.List.{All, AllByRecursion, flat_map}
+use Rattle.std.proofs.Math.Seq.{take-append_seam}
+use Rattle.std.proofs.lemmas.List.{length-map}
+use Rattle.std.proofs.lemmas.List.FromFn.{length-map-range_with_len}
+use Rattle.std.proofs.lemmas.List.Elements.{All-nil, All-cons, All-from_recursion}
+use Rattle.gpt_descriptors.specs.Places.{GeometryData, IsGeometry, l0_words}
+use Rattle.gpt_descriptors.specs.Entries.{l0_word}
+use Rattle.region_plan.specs.Regions.{region_l0, region_entry}
+use Rattle.table_build.specs.TableData.{TableData, AreTables}
+use Rattle.table_build.specs.Built.{tables_of, region_l1}
+use Rattle.shared_words.specs.Start.{start_words}
+use Rattle.scenario_text.specs.declared.scenario.Scenario.{Scenario}
+use Rattle.scenario_text.specs.declared.scenario.Script.{Script}
+use Rattle.scenario_text.specs.declared.scenario.Script.TheVariants as script
+use Rattle.scenario_text.specs.declared.scenario.Slot.{Slot}
+use Rattle.scenario_text.specs.declared.scenario.Slot.TheVariants as slot
+use Rattle.scenario_text.specs.Spelling.{IsSlot, WellFormed}
+use Rattle.shared_words.specs.declared.act.Act.{Act}
+use Rattle.history.specs.declared.call.Task.{Task}
+use Rattle.delegate_ops.specs.Agents.{IsAgent, is_look, fresh}
+use Rattle.delegate_ops.proofs.AgentLemmas.{idle_few, idle_then_acts}
+use Rattle.core_machine.specs.declared.caller.Caller.{Caller}
+use Rattle.core_machine.specs.Callers.{caller_next}
+use Rattle.core_machine.specs.Opening.{IsFresh, AreStarting}
+use Rattle.core_machine.specs.Machine.{MachineData, StandsFor, after_act_of, after_turn_of, after_turn, after_turns}
+use Rattle.core_machine.specs.Play.{task_of_ask, caller_of, geometry_of, opening_of, first_map, IsAccepted, NamesCaller, slot_turns, turns_in, played, played_history}
+use Rattle.core_machine.proofs.CallLemmas.{asks_no_looks}
+use Rattle.core_machine.proofs.MachineLemmas.{opening_stands, turns_stand}
+use Rattle.core_machine.proofs.OpeningLemmas.{built_starts}
+
+-- ---- callers
+
+fresh_is_agent : (g : GeometryData) (tasks : List Task) → IsGeometry g → All (λ t. is_look t ≡ false) tasks → IsAgent (fresh g tasks)
+fresh_is_agent g tasks geometry no_looks = record {
+  geometry = geometry;
+  no_looks = no_looks;
+  answered = idle_few g tasks;
+  acts = idle_then_acts g tasks;
+}
+
+caller_fresh : (g : GeometryData) (s : Script) → IsGeometry g → IsFresh g (caller_of g s)
+caller_fresh g (script.Agent asks) geometry =
+    (refl, fresh_is_agent g (map task_of_ask asks) geometry (asks_no_looks asks))
+caller_fresh g (script.Cpu looks) geometry = tt
+
+pub callers_fresh : (g : GeometryData) (scripts : List Script) → IsGeometry g → All (IsFresh g) (map (caller_of g) scripts)
+callers_fresh g [] geometry = All-nil (IsFresh g)
+callers_fresh g (s ∷ scripts) geometry =
+    All-cons (IsFresh g) (caller_of g s) (map (caller_of g) scripts) (caller_fresh g s geometry) (callers_fresh g scripts geometry)
+
+-- ---- words
+
+level0_of : (s : Scenario) → l0_words (geometry_of s) ≡ region_l0 s.setup s.regions
+level0_of s =
+    ap (λ (n : ℕ). take n (region_l0 s.setup s.regions ++ replicate (64 - s.setup.gigabytes) 0)) (sym (length-map-range_with_len (λ q. l0_word (region_entry s.setup s.regions q)) 0 s.setup.gigabytes))
+    ∙ take-append_seam (region_l0 s.setup s.regions) (replicate (64 - s.setup.gigabytes) 0)
+
+pub opening_starts : (s : Scenario) → IsAccepted s → IsGeometry (geometry_of s) → AreTables (tables_of s.setup s.regions) → AreStarting (geometry_of s) (first_map s) (start_words (geometry_of s) (region_l1 s.setup s.regions))
+opening_starts s accepted geometry tables = built_starts (geometry_of s) s.regions geometry (level0_of s) accepted.planned accepted.based tables.words
+
+-- ---- turns
+
+pub slots_name : (n : ℕ) (schedule : List Slot) → AllByRecursion (IsSlot n) schedule → AllByRecursion (NamesCaller n) schedule
+slots_name n [] slots = tt
+slots_name n (slot.Turn c turns ∷ schedule) slots = (slots.0.0, slots_name n schedule slots.1)
+slots_name n (slot.Round turns times ∷ schedule) slots = (tt, slots_name n schedule slots.1)
+
+pub schedule_names : (s : Scenario) → WellFormed s → All (NamesCaller (length s.scripts)) s.schedule
+schedule_names s formed = All-from_recursion (NamesCaller (length s.scripts)) s.schedule (slots_name (length s.scripts) s.schedule formed.slots)
+
+act_geometry : (m : MachineData) (c : ℕ) (a : Caller) (o : Option Act) → (after_act_of m c a o).geometry ≡ m.geometry
+act_geometry m c a None = refl
+act_geometry m c a (Some t) = refl
+
+turn_geometry : (m : MachineData) (c : ℕ) (o : Option Caller) → (after_turn_of m c o).geometry ≡ m.geometry
+turn_geometry m c None = refl
+turn_geometry m c (Some a) = act_geometry m c a (caller_next a)
+
+pub turns_geometry : (m : MachineData) (turns : List ℕ) → (after_turns m turns).geometry ≡ m.geometry
+turns_geometry m [] = refl
+turns_geometry m (c ∷ turns) = turns_geometry (after_turn m c) turns ∙ turn_geometry m c (slice_get m.callers c)
+
+-- the opening stands for the empty history, and what is played for the history of its trace
+pub opening_so : (s : Scenario) → IsAccepted s → IsGeometry (geometry_of s) → AreTables (tables_of s.setup s.regions) → StandsFor (first_map s) (opening_of s) []
+opening_so s accepted geometry tables =
+    opening_stands (geometry_of s) (first_map s) _ _ (callers_fresh (geometry_of s) s.scripts geometry) (opening_starts s accepted geometry tables)
+
+pub played_so : (s : Scenario) → IsAccepted s → IsGeometry (geometry_of s) → AreTables (tables_of s.setup s.regions) → StandsFor (first_map s) (played s) (played_history s)
+played_so s accepted geometry tables = turns_stand (first_map s) (opening_of s) [] (turns_in s) (opening_so s accepted geometry tables)
+
+-- ---- the code's machine
+
+words_at : (s : Scenario) (g : GeometryData) (t : TableData) (l1 words : List ℕ) → g ≡ geometry_of s → t ≡ tables_of s.setup s.regions → l1 ≡ t.l1 → words ≡ start_words g l1
+    → words ≡ start_words (geometry_of s) (region_l1 s.setup s.regions)
+words_at s g t l1 words so built l1_is words_is =
+    words_is ∙ ap (λ (k : GeometryData). start_words k l1) so ∙ ap (start_words (geometry_of s)) (l1_is ∙ ap (λ (u : TableData). u.l1) built)
+
+pub starts_at : (s : Scenario) (g : GeometryData) (t : TableData) (l1 words : List ℕ) → IsAccepted s → g ≡ geometry_of s → IsGeometry g → t ≡ tables_of s.setup s.regions → AreTables t → l1 ≡ t.l1 → words ≡ start_words g l1
+    → AreStarting g (first_map s) words
+starts_at s g t l1 words accepted so geometry built tables l1_is words_is =
+    let own = opening_starts s accepted (subst IsGeometry so geometry) (subst AreTables built tables) in
+    subst (λ (k : GeometryData). AreStarting k (first_map s) words) (sym so) (subst (AreStarting (geometry_of s) (first_map s)) (sym (words_at s g t l1 words so built l1_is words_is)) own)
+
+pub opened_is : (s : Scenario) (g : GeometryData) (t : TableData) (l1 words : List ℕ) (callers : List Caller) → g ≡ geometry_of s → t ≡ tables_of s.setup s.regions → l1 ≡ t.l1 → words ≡ start_words g l1 → callers ≡ map (caller_of g) s.scripts
+    → record { geometry = g; callers = callers; words = words } ≡ opening_of s
+opened_is s g t l1 words callers so built l1_is words_is callers_is = rw (words_at s g t l1 words so built l1_is words_is, callers_is, so) refl
+
+callers_of_opening : (s : Scenario) (m : MachineData) → m ≡ opening_of s → length m.callers ≡ length s.scripts
+callers_of_opening s m so = ap (λ (k : MachineData). length k.callers) so ∙ length-map s.scripts (caller_of (geometry_of s))
+
+pub names_at : (s : Scenario) (m : MachineData) → m ≡ opening_of s → WellFormed s → All (NamesCaller (length m.callers)) s.schedule
+names_at s m so formed = subst (λ (n : ℕ). All (NamesCaller n) s.schedule) (sym (callers_of_opening s m so)) (schedule_names s formed)
+
+pub played_is : (s : Scenario) (m n : MachineData) → m ≡ opening_of s → n ≡ after_turns m (flat_map (slot_turns (length m.callers)) s.schedule) → n ≡ played s
+played_is s m n so turned =
+    turned ∙ ap (λ (k : MachineData). after_turns k (flat_map (slot_turns (length m.callers)) s.schedule)) so
+    ∙ ap (λ (count : ℕ). after_turns (opening_of s) (flat_map (slot_turns count) s.schedule)) (callers_of_opening s m so)
+
+pub played_stands : (s : Scenario) (m : MachineData) → m ≡ opening_of s → StandsFor (first_map s) m [] → StandsFor (first_map s) (played s) (played_history s)
+played_stands s m so stands = turns_stand (first_map s) (opening_of s) [] (turns_in s) (subst (λ (k : MachineData). StandsFor (first_map s) k []) so stands)
+
+pub always : {A E : Type 0} (P : Type 0) (r : Result A E) → P → IfOk r (λ x. P)
+always P (Ok x) p = p
+always P (Err e) p = tt

@@ -1,0 +1,82 @@
+-- The tables: what an act leaves of them, and what a loaded L1 word says.
+use Rattle.std.proofs.Common.{◌≡◌, ℕ, ◌+◌, ◌*◌, ◌/◌, ◌%◌, ◌<◌, List, true, false, eqb, Option, Some, None, set, refl, sym, ap, ◌∙◌, subst, arith, inl, inr, mul_comm}
+use Rattle.std.specs.Prelude.{slice_get, slice_index, is_some}
+use Rattle.std.proofs.Math.Nat.{mod-add-div, div-lt_iff_lt-mul}
+use Rattle.std.proofs.lemmas.Bool.{cases_Bool, eqb-true}
+use Rattle.std.proofs.lemmas.List.{get_or-set_other}
+use Rattle.gpi_values.specs.declared.gpi.Gpi.{Gpi}
+use Rattle.gpt_descriptors.specs.declared.entry.L1Entry.{L1Entry}
+use Rattle.gpt_descriptors.specs.Sizes.{SetupData, granule_bytes, table_words, region_bytes, space_bytes, space_granules}
+use Rattle.gpt_descriptors.specs.Entries.{l1_entry, word_gpi}
+use Rattle.gpt_descriptors.specs.Places.{GeometryData, IsGeometry, Level1, place_of, l1_words, l1_index_of, l1_place_of}
+use Rattle.gpt_descriptors.proofs.SizeLemmas.{granule_low, word_is, table_whole}
+use Rattle.gpt_descriptors.proofs.PlaceLemmas.{index_within}
+use Rattle.delegate_ops.specs.Deciding.{granule_place, is_unusable}
+use Rattle.core_machine.specs.Tables.{gpi_by, table_gpi, table_word, MeansMap}
+
+-- ---- acts elsewhere
+
+-- every L1 word is as before
+abbrev pub KeepsTables : GeometryData → List ℕ → List ℕ → Type 0
+KeepsTables g words after = (i : ℕ) → i < l1_words g → table_word g after i ≡ table_word g words i
+
+same_gpi : (g : GeometryData) (words after : List ℕ) (pa : ℕ) (o : Option ℕ) → IsGeometry g → l1_index_of g pa ≡ o → KeepsTables g words after → table_gpi g after pa ≡ table_gpi g words pa
+same_gpi g words after pa None geometry at keeps = rw at refl
+same_gpi g words after pa (Some i) geometry at keeps =
+    rw at (ap (λ (word : ℕ). word_gpi word (granule_place g pa)) (keeps i (index_within g pa i geometry at)))
+
+pub tables_keep : (g : GeometryData) (words after : List ℕ) (map : List Gpi) → IsGeometry g → KeepsTables g words after → MeansMap g words map → MeansMap g after map
+tables_keep g words after map geometry keeps means = record {
+  meaning = λ granule within. same_gpi g words after (granule * granule_bytes g.setup) (l1_index_of g (granule * granule_bytes g.setup)) geometry refl keeps ∙ means.meaning granule within;
+  fills = λ i j z gpi i_in j_in entry block.
+      keeps j j_in ∙ means.fills i j z gpi i_in j_in (ap l1_entry (sym (keeps i i_in)) ∙ entry) block ∙ sym (keeps i i_in);
+}
+
+-- the lock words come before all L1 words
+pub locks_apart : (g : GeometryData) (words : List ℕ) (p word : ℕ) → p < 2 → KeepsTables g words (set words p word)
+locks_apart g words p word low i within = get_or-set_other words p (place_of g (Level1 i)) word 0 (λ same. omega (arith, same, low))
+
+-- ---- granules
+
+pub space_whole : (s : SetupData) → space_granules s * granule_bytes s ≡ space_bytes s
+space_whole s =
+    let table : table_words s * (16 * granule_bytes s) ≡ region_bytes = ap (λ (n : ℕ). table_words s * n) (sym (word_is s)) ∙ table_whole s in
+    let turned : 16 * (s.gigabytes * table_words s) * granule_bytes s ≡ s.gigabytes * (table_words s * (16 * granule_bytes s)) = grind arith in
+    turned ∙ ap (λ (n : ℕ). s.gigabytes * n) table
+
+pub granule_within : (s : SetupData) (pa : ℕ) → pa < space_bytes s → pa / granule_bytes s < space_granules s
+granule_within s pa inside =
+    let some : 0 < granule_bytes s = omega (arith, granule_low s) in
+    (div-lt_iff_lt-mul some).1 (subst (λ (n : ℕ). pa < n) (sym (space_whole s)) inside)
+
+-- an aligned address is that of its granule
+pub granule_start : (s : SetupData) (pa : ℕ) → pa % granule_bytes s ≡ 0 → pa / granule_bytes s * granule_bytes s ≡ pa
+granule_start s pa aligned =
+    let whole : pa % granule_bytes s + granule_bytes s * (pa / granule_bytes s) ≡ pa = mod-add-div pa (granule_bytes s) in
+    omega (arith, whole, aligned, mul_comm (pa / granule_bytes s) (granule_bytes s))
+
+-- ---- loaded words
+
+pub usable_aligned : (g : GeometryData) (pa : ℕ) → is_unusable g pa ≡ false → pa % granule_bytes g.setup ≡ 0
+usable_aligned g pa usable =
+    elim (cases_Bool (eqb (pa % granule_bytes g.setup) 0)) [
+      | inl aligned ↦ eqb-true _ _ aligned
+      | inr unaligned ↦ absurd (let both = rw unaligned at usable in cc)
+    ]
+
+-- a word that has a meaning is a descriptor
+readable_by : (word place : ℕ) (gpi : Gpi) (o : Option L1Entry) → l1_entry word ≡ o → word_gpi word place ≡ Some gpi → is_some (l1_entry word) ≡ true
+readable_by word place gpi None entry means = absurd (let both = rw entry at means in cc)
+readable_by word place gpi (Some e) entry means = rw entry refl
+
+pub word_readable : (word place : ℕ) (gpi : Gpi) → word_gpi word place ≡ Some gpi → is_some (l1_entry word) ≡ true
+word_readable word place gpi means = readable_by word place gpi (l1_entry word) refl means
+
+-- the L1 word of a usable address gives its granule's GPI
+pub loaded_gpi : (g : GeometryData) (words : List ℕ) (map : List Gpi) (pa place : ℕ) → MeansMap g words map → pa < space_bytes g.setup → pa % granule_bytes g.setup ≡ 0 → l1_place_of g pa ≡ Some place
+    → word_gpi (slice_index words place) (granule_place g pa) ≡ slice_get map (pa / granule_bytes g.setup)
+loaded_gpi g words map pa place means inside aligned there =
+    let start = granule_start g.setup pa aligned in
+    let meaning : table_gpi g words pa ≡ slice_get map (pa / granule_bytes g.setup) =
+    ap (table_gpi g words) (sym start) ∙ means.meaning (pa / granule_bytes g.setup) (granule_within g.setup pa inside) in
+    sym (ap (gpi_by g words pa) there) ∙ meaning

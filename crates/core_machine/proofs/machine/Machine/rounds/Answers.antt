@@ -1,0 +1,19 @@
+use Rattle.std.proofs.Common.{◌+◌, ℕ, length, ap, ◌∙◌}
+use Rattle.std.specs.List.{flat_map, range_with_len}
+use Rattle.core_machine.specs.Machine.{after_turns}
+use Rattle.core_machine.specs.Play.{round_turns}
+use Rattle.core_machine.proofs.MachineLemmas.{stands_after, length_so, turns_more, range_front}
+use Rattle.core_machine.proofs.machine.Machine.rounds.Goals as goal
+
+pub round-requires : goal.round-requires
+round-requires g c =
+    stands_after c.args.self.now c.loop.self (flat_map (λ (k : ℕ). round_turns (length c.args.self.now.callers) c.args.count) (range_with_len 0 c.loop.counter)) c.loop.invariant c.requires
+
+pub loop-preserved : goal.loop-preserved
+loop-preserved g c =
+    let front = flat_map (λ (k : ℕ). round_turns (length c.args.self.now.callers) c.args.count) (range_with_len 0 c.loop.counter) in
+    c.round.ensures
+    ∙ ap (λ (n : ℕ). after_turns c.loop.self (round_turns n c.args.count)) (length_so c.args.self.now c.loop.self front c.loop.invariant)
+    ∙ turns_more c.args.self.now c.loop.self front (round_turns (length c.args.self.now.callers) c.args.count)
+    (flat_map (λ (k : ℕ). round_turns (length c.args.self.now.callers) c.args.count) (range_with_len 0 (c.loop.counter + 1))) c.loop.invariant
+    (range_front (λ (k : ℕ). round_turns (length c.args.self.now.callers) c.args.count) c.loop.counter)

@@ -1,0 +1,30 @@
+use Rattle.std.proofs.Common.{sym, ◌∙◌, subst}
+use Rattle.std.specs.List.{All}
+use Rattle.core_machine.specs.Opening.{IsFresh}
+use Rattle.core_machine.specs.Play.{first_map}
+use Rattle.core_machine.proofs.PlayLemmas.{callers_fresh, starts_at, opened_is}
+use Rattle.core_machine.proofs.played.open.Goals as goal
+
+pub new-requires-2-clause-fresh : goal.new-requires-2-clause-fresh
+new-requires-2-clause-fresh c =
+    subst (All (IsFresh c.geometry_of-geometry.result)) (sym c.in_ok-callers.ensures)
+    (callers_fresh c.geometry_of-geometry.result c.args.scenario.now.scripts c.geometry_of-geometry.ensures.known)
+
+pub new-requires-2-clause-starting : goal.new-requires-2-clause-starting
+new-requires-2-clause-starting c = (
+  first_map c.args.scenario.now,
+  starts_at c.args.scenario.now c.geometry_of-geometry.result c.args.tables.now c.l1.result.now c.in_ok-words.words c.requires.accepted c.geometry_of-geometry.ensures.geometry c.geometry_of-geometry.ensures.known
+      c.requires.built c.l1.ensures.tables c.l1.ensures.words c.in_ok-words.ensures.words,
+)
+
+pub returns-clause-machine : goal.returns-clause-machine
+returns-clause-machine c =
+    c.new-2.ensures.machine
+    ∙ opened_is c.args.scenario.now c.geometry_of-geometry.result c.args.tables.now c.l1.result.now c.in_ok-words.words c.in_ok-callers.callers.items c.geometry_of-geometry.ensures.geometry c.requires.built
+    c.l1.ensures.words c.in_ok-words.ensures.words c.in_ok-callers.ensures
+
+pub returns-clause-stands : goal.returns-clause-stands
+returns-clause-stands c =
+    c.new-2.ensures.stands (first_map c.args.scenario.now)
+    (starts_at c.args.scenario.now c.geometry_of-geometry.result c.args.tables.now c.l1.result.now c.in_ok-words.words c.requires.accepted c.geometry_of-geometry.ensures.geometry c.geometry_of-geometry.ensures.known
+    c.requires.built c.l1.ensures.tables c.l1.ensures.words c.in_ok-words.ensures.words)

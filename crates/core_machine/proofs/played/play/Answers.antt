@@ -1,0 +1,25 @@
+use Rattle.std.proofs.Common.{◌≡◌, List, length, sym, ap, ◌∙◌, subst}
+use Rattle.std.specs.Prelude.{IfOk}
+use Rattle.std.specs.List.{All, flat_map}
+use Rattle.scenario_text.specs.declared.scenario.Slot.{Slot}
+use Rattle.core_machine.specs.Machine.{MachineData, StandsFor, after_turns}
+use Rattle.core_machine.specs.Play.{NamesCaller, slot_turns, first_map, played, played_history, outcome_of}
+use Rattle.core_machine.proofs.PlayLemmas.{names_at, played_is, played_stands, always}
+use Rattle.core_machine.proofs.played.play.Goals as goal
+
+pub schedule-requires-clause-names : goal.schedule-requires-clause-names
+schedule-requires-clause-names c =
+    subst (All (NamesCaller (length c.in_ok-machine.machine.callers))) (sym c.as_slice.ensures)
+    (names_at c.args.scenario.now c.in_ok-machine.machine c.in_ok-machine.ensures.machine c.requires.wellformed)
+
+pub returns-clause-trace : goal.returns-clause-trace
+returns-clause-trace c =
+    subst (λ (m : MachineData). IfOk c.leave.result (λ outcome. outcome ≡ outcome_of m))
+    (played_is c.args.scenario.now c.in_ok-machine.machine c.schedule.new.self c.in_ok-machine.ensures.machine
+    (c.schedule.ensures ∙ ap (λ (slots : List Slot). after_turns c.in_ok-machine.machine (flat_map (slot_turns (length c.in_ok-machine.machine.callers)) slots)) c.as_slice.ensures))
+    c.leave.ensures
+
+pub returns-clause-stands : goal.returns-clause-stands
+returns-clause-stands c =
+    always (StandsFor (first_map c.args.scenario.now) (played c.args.scenario.now) (played_history c.args.scenario.now)) c.leave.result
+    (played_stands c.args.scenario.now c.in_ok-machine.machine c.in_ok-machine.ensures.machine c.in_ok-machine.ensures.stands)

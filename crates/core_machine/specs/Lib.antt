@@ -1,0 +1,9 @@
+pub mod Callers
+pub mod Told
+pub mod Tables
+pub mod Locks
+pub mod Stands
+pub mod Law
+pub mod Machine
+pub mod Opening
+pub mod Play

@@ -1,0 +1,79 @@
+-- The machine as plain data, and the trace of a list of turns.
+use Rattle.std.specs.Prelude.{ℕ, List, [], ◌∷◌, ◌++◌, slice_get, slice_set, Option, Some, None}
+use Rattle.gpi_values.specs.declared.gpi.Gpi.{Gpi}
+use Rattle.gpt_descriptors.specs.Places.{GeometryData}
+use Rattle.shared_words.specs.declared.act.Act.{Act}
+use Rattle.shared_words.specs.Acts.{answer_of, after_act}
+use Rattle.history.specs.declared.entry.Entry.{Entry}
+use Rattle.core_machine.specs.declared.caller.Caller.{Caller}
+use Rattle.core_machine.specs.Callers.{caller_next, caller_took, made_by}
+use Rattle.core_machine.specs.Stands.{Stands}
+
+pub record MachineData : Type 0 where
+  pub geometry : GeometryData
+  pub callers : List Caller
+  pub words : List ℕ
+
+-- the machine stands for a history from a first map
+abbrev pub StandsFor : List Gpi → MachineData → List Entry → Type 0
+StandsFor first m h = Stands m.geometry first m.words m.callers h
+
+-- ---- one turn
+
+-- an event of a trace: a caller, an act, and the word that the act answered
+pub record TraceEvent : Type 0 where
+  pub caller : ℕ
+  pub act : Act
+  pub old : ℕ
+
+-- the next act of a caller is made on the words
+abbrev pub after_act_of : MachineData → ℕ → Caller → Option Act → MachineData
+after_act_of m c a None = m
+after_act_of m c a (Some t) = record {
+  geometry = m.geometry;
+  callers = slice_set m.callers c (caller_took a (answer_of t m.words));
+  words = after_act t m.words;
+}
+
+abbrev pub event_of : MachineData → ℕ → Option Act → List TraceEvent
+event_of m c None = []
+event_of m c (Some t) = record { caller = c; act = t; old = answer_of t m.words } ∷ []
+
+abbrev pub told_of : MachineData → ℕ → Caller → Option Act → List Entry
+told_of m c a None = []
+told_of m c a (Some t) = made_by c a (answer_of t m.words)
+
+-- the machine after a turn of caller c, its event, and the entries that it tells
+abbrev pub after_turn_of : MachineData → ℕ → Option Caller → MachineData
+after_turn_of m c None = m
+after_turn_of m c (Some a) = after_act_of m c a (caller_next a)
+
+abbrev pub after_turn : MachineData → ℕ → MachineData
+after_turn m c = after_turn_of m c (slice_get m.callers c)
+
+abbrev pub turn_event_of : MachineData → ℕ → Option Caller → List TraceEvent
+turn_event_of m c None = []
+turn_event_of m c (Some a) = event_of m c (caller_next a)
+
+abbrev pub turn_told_of : MachineData → ℕ → Option Caller → List Entry
+turn_told_of m c None = []
+turn_told_of m c (Some a) = told_of m c a (caller_next a)
+
+abbrev pub turn_told : MachineData → ℕ → List Entry
+turn_told m c = turn_told_of m c (slice_get m.callers c)
+
+-- ---- a list of turns, by callers
+
+abbrev pub after_turns : MachineData → List ℕ → MachineData
+after_turns m [] = m
+after_turns m (c ∷ turns) = after_turns (after_turn m c) turns
+
+-- The trace: the events of the turns, without the turns of a caller that has no act.
+abbrev pub trace_of : MachineData → List ℕ → List TraceEvent
+trace_of m [] = []
+trace_of m (c ∷ turns) = turn_event_of m c (slice_get m.callers c) ++ trace_of (after_turn m c) turns
+
+-- the history of the trace: the entries of its events, in their order
+abbrev pub told_in : MachineData → List ℕ → List Entry
+told_in m [] = []
+told_in m (c ∷ turns) = turn_told m c ++ told_in (after_turn m c) turns

@@ -1,0 +1,68 @@
+ghost use Rattle.std.specs.Prelude.{◌≡◌, IsSome};
+ghost use Rattle.core_machine.specs.Callers.{caller_next, caller_took, caller_waits, caller_answers, caller_left, MayTake};
+
+use delegate_ops::Agent;
+use history::Answer;
+use shared_words::Act;
+
+/// One that acts on the shared words: an agent, or a processor, of which the number of accesses alone is
+/// kept until processors act.
+#[derive(Debug, Drop)]
+pub enum Caller {
+    Agent(Agent),
+    Cpu(u64),
+}
+
+impl Caller {
+    /// The next act, or `None` where it has none.
+    pub fn next(&self) -> Option<Act>
+        ensures { result ≡ caller_next self.now }
+    {
+        match self {
+            Caller::Agent(agent) => agent.next(),
+            Caller::Cpu(_) => None,
+        }
+    }
+
+    /// Takes note that the next act was made and answered `old`.
+    pub fn took(&mut self, old: u64)
+        requires next { IsSome (caller_next self.old) }
+        requires readable { MayTake self.old old }
+        ensures { self.new ≡ caller_took self.old old }
+    {
+        match self {
+            Caller::Agent(agent) => agent.took(old),
+            Caller::Cpu(_) => {}
+        }
+    }
+
+    /// Whether the last act was a lock that wasn't free.
+    pub fn waits(&self) -> bool
+        ensures { result ≡ caller_waits self.now }
+    {
+        match self {
+            Caller::Agent(agent) => agent.waits(),
+            Caller::Cpu(_) => false,
+        }
+    }
+
+    /// The answers so far, in the order of the calls.
+    pub fn answers(&self) -> &[Answer]
+        ensures { result.now ≡ caller_answers self.now }
+    {
+        match self {
+            Caller::Agent(agent) => agent.answers(),
+            Caller::Cpu(_) => &[],
+        }
+    }
+
+    /// The number of calls without an answer.
+    pub fn left(&self) -> u64
+        ensures { result ≡ caller_left self.now }
+    {
+        match self {
+            Caller::Agent(agent) => agent.left(),
+            Caller::Cpu(looks) => *looks,
+        }
+    }
+}

@@ -1,0 +1,71 @@
+ghost use Rattle.std.specs.Prelude.{◌≡◌, IfOk, map, if◌then◌else◌};
+ghost use Rattle.core_machine.specs.Play.{task_of_ask, caller_of};
+ghost use Rattle.rmm_calls.specs.Codes.{is_admitted};
+ghost use Rattle.history.specs.declared.call.Task.TheVariants as the_task;
+
+use crate::caller::Caller;
+use delegate_ops::{Agent, Task};
+use gpi_values::{Source, World};
+use gpt_descriptors::Geometry;
+use rmm_calls::admits;
+use scenario_text::{Ask, Scenario, Script};
+use std::alloc::{AllocError, Global};
+
+/// The task of a transition through the monitor, if its world is admitted: then it is the Realm's.
+fn admitted(world: World, task: Task) -> Task
+    ensures { result ≡ (if is_admitted world then task else the_task.Unknown) }
+{
+    if admits(world) { task } else { Task::Unknown }
+}
+
+/// The task of a call.
+fn task_of(ask: Ask) -> Task
+    ensures { result ≡ task_of_ask ask }
+{
+    match ask {
+        Ask::Delegate(pa, source) => Task::Delegate(pa, source),
+        Ask::Undelegate(pa, source) => Task::Undelegate(pa, source),
+        Ask::SmcDelegate(pa, world) => admitted(world, Task::Delegate(pa, Source::Realm)),
+        Ask::SmcUndelegate(pa, world) => admitted(world, Task::Undelegate(pa, Source::Realm)),
+    }
+}
+
+/// The tasks of an agent's calls.
+fn tasks_of(alloc: Global, asks: &[Ask]) -> Result<Vec<Task>, AllocError>
+    ensures { IfOk result (λ tasks. tasks.items ≡ map task_of_ask asks.now) }
+{
+    let mut tasks = Vec::with_capacity(alloc, asks.len())?;
+    for ask in asks {
+        tasks.push(task_of(*ask))?;
+    }
+    Ok(tasks)
+}
+
+/// The caller of a script.
+fn caller_of(alloc: Global, script: &Script, geometry: Geometry) -> Result<Caller, AllocError>
+    ensures { IfOk result (λ caller. caller ≡ caller_of geometry script.now) }
+{
+    match script {
+        Script::Agent(asks) => {
+            let tasks = tasks_of(alloc, asks.as_slice())?;
+            Ok(Caller::Agent(Agent::new(alloc, geometry, tasks)?))
+        }
+        Script::Cpu(looks) => Ok(Caller::Cpu(looks.as_slice().len() as u64)),
+    }
+}
+
+/// The callers of a scenario, one for each script, in their order.
+pub fn callers(
+    alloc: Global,
+    scenario: &Scenario,
+    geometry: Geometry,
+) -> Result<Vec<Caller>, AllocError>
+    ensures { IfOk result (λ callers. callers.items ≡ map (caller_of geometry) scenario.now.scripts) }
+{
+    let scripts = scenario.scripts.as_slice();
+    let mut callers = Vec::with_capacity(alloc, scripts.len())?;
+    for script in scripts {
+        callers.push(caller_of(alloc, script, geometry)?)?;
+    }
+    Ok(callers)
+}

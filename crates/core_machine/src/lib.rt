@@ -1,0 +1,18 @@
+//! The core: callers that act on the shared words one act at a time, the facts that stand between any
+//! two acts, and that every act keeps them.
+#![tactic(auto)]
+
+mod caller;
+mod calling;
+mod law;
+mod machine;
+mod played;
+mod playing;
+#[cfg(test)]
+mod tests;
+
+pub use caller::Caller;
+pub use calling::callers;
+pub use law::one_act_keeps;
+pub use machine::Machine;
+pub use played::play;

@@ -1,0 +1,83 @@
+ghost use Rattle.std.specs.Prelude.{◌≡◌, ◌<◌, ℕ, List, [], ◌++◌, length};
+ghost use Rattle.std.specs.List.{All};
+ghost use Rattle.gpi_values.specs.declared.gpi.Gpi.{Gpi};
+ghost use Rattle.history.specs.declared.entry.Entry.{Entry};
+ghost use Rattle.core_machine.specs.Opening.{IsFresh, AreStarting};
+ghost use Rattle.core_machine.specs.Machine.{StandsFor, after_turn, turn_told};
+
+use crate::caller::Caller;
+use gpt_descriptors::Geometry;
+use shared_words::Words;
+use std::marker::Model;
+
+/// Callers and the words that they share. Its turns are single acts, on one thread.
+#[derive(Debug, Drop)]
+pub struct Machine<W: Words> {
+    geometry: Geometry,
+    callers: Vec<Caller>,
+    words: W,
+}
+
+impl<W: Words> Model for Machine<W> {
+    ghost use Rattle.core_machine.specs.Machine.{MachineData};
+
+    ghost Value = { MachineData };
+
+    ghost view = { λ m. record { geometry = m.geometry; callers = m.callers.items; words = W.words m.words } };
+}
+
+impl<W: Words> Machine<W> {
+    /// A machine before the first act: the callers were made with this geometry and have made no act,
+    /// all shared words are there, no lock is held, and the tables among them mean a map. It stands
+    /// for the empty history from that map.
+    pub fn new(geometry: Geometry, callers: Vec<Caller>, words: W) -> Machine<W>
+        requires fresh { All (IsFresh geometry) callers.items }
+        requires starting { (first : List Gpi) × AreStarting geometry first (W.words words) }
+        ensures machine { result ≡ record { geometry = geometry; callers = callers.items; words = W.words words } }
+        ensures stands { (first : List Gpi) → AreStarting geometry first (W.words words) → StandsFor first result [] }
+    {
+        Machine {
+            geometry,
+            callers,
+            words,
+        }
+    }
+
+    /// One act of a caller, nothing where it has none. Where the machine stood for a history, it
+    /// stands for it with the entries of that act.
+    pub fn turn(&mut self, caller: usize)
+        requires caller { caller < length self.old.callers }
+        requires stands { (first : List Gpi) × (h : List Entry) × StandsFor first self.old h }
+        ensures turn { self.new ≡ after_turn self.old caller }
+        ensures stands { (first : List Gpi) (h : List Entry) → StandsFor first self.old h → StandsFor first self.new (h ++ turn_told self.old caller) }
+    {
+        let acting = &mut self.callers[caller];
+        if let Some(act) = acting.next() {
+            let old = self.words.apply(act);
+            acting.took(old);
+        }
+    }
+
+    /// The geometry of the shared words.
+    pub fn geometry(&self) -> Geometry
+        ensures { result ≡ self.now.geometry }
+    {
+        self.geometry
+    }
+
+    /// The callers.
+    pub fn callers(&self) -> &[Caller]
+        ensures { result.now ≡ self.now.callers }
+    {
+        self.callers.as_slice()
+    }
+
+    /// The callers and the words as they stand.
+    pub fn into_parts(self) -> (Vec<Caller>, W)
+        ensures callers { result.0.items ≡ self.callers }
+        ensures words { W.words result.1 ≡ self.words }
+    {
+        let Machine { callers, words, .. } = self;
+        (callers, words)
+    }
+}

@@ -1,0 +1,97 @@
+ghost use Rattle.std.specs.Prelude.{◌≡◌, [], IfOk, map, count_by};
+ghost use Rattle.gpt_descriptors.specs.Places.{IsGeometry};
+ghost use Rattle.scenario_text.specs.Spelling.{WellFormed};
+ghost use Rattle.table_build.specs.Built.{tables_of};
+ghost use Rattle.core_machine.specs.Callers.{caller_answers};
+ghost use Rattle.core_machine.specs.Machine.{StandsFor};
+ghost use Rattle.core_machine.specs.Play.{IsAccepted, geometry_of, is_cpu, opening_of, first_map, played, played_history, outcome_of};
+
+use crate::caller::Caller;
+use crate::calling::callers;
+use crate::machine::Machine;
+use gpi_values::Listed;
+use gpt_descriptors::Geometry;
+use history::{Answer, Outcome};
+use scenario_text::{Scenario, Script};
+use shared_words::PlainWords;
+use std::alloc::{AllocError, Global};
+use table_build::Tables;
+
+/// The number of processors of a scenario.
+fn count_cpus(scripts: &[Script]) -> usize
+    ensures { result ≡ count_by is_cpu scripts.now }
+{
+    scripts
+        .iter()
+        .filter(|script| matches!(script, Script::Cpu(_)))
+        .count()
+}
+
+/// The answers of all callers, in their order.
+fn answers_of(alloc: Global, callers: &[Caller]) -> Result<Vec<Listed<Answer>>, AllocError>
+    ensures { IfOk result (λ answers. answers.items ≡ map caller_answers callers.now) }
+{
+    let mut answers = Vec::with_capacity(alloc, callers.len())?;
+    for caller in callers {
+        answers.push(Listed::new(Vec::from_slice(alloc, caller.answers())?))?;
+    }
+    Ok(answers)
+}
+
+/// The geometry of a scenario whose tables were built.
+fn geometry_of(scenario: &Scenario, tables: &Tables) -> Geometry
+    requires wellformed { WellFormed scenario.now }
+    requires built { tables.now ≡ tables_of scenario.now.setup scenario.now.regions }
+    ensures geometry { result ≡ geometry_of scenario.now }
+    ensures known { IsGeometry result }
+{
+    let cpus = count_cpus(scenario.scripts.as_slice()) as u32;
+    let geometry = Geometry::new(scenario.setup, cpus, tables.l0());
+    let _setup = geometry.setup();
+    geometry
+}
+
+/// The machine of a scenario before the first act, on its built tables.
+fn open(
+    alloc: Global,
+    scenario: &Scenario,
+    tables: &Tables,
+) -> Result<Machine<PlainWords>, AllocError>
+    requires wellformed { WellFormed scenario.now }
+    requires accepted { IsAccepted scenario.now }
+    requires built { tables.now ≡ tables_of scenario.now.setup scenario.now.regions }
+    ensures machine { IfOk result (λ machine. machine ≡ opening_of scenario.now) }
+    ensures stands { IfOk result (λ machine. StandsFor (first_map scenario.now) machine []) }
+{
+    let geometry = geometry_of(scenario, tables);
+    let callers = callers(alloc, scenario, geometry)?;
+    let words = PlainWords::new(alloc, &geometry, tables.l1())?;
+    Ok(Machine::new(geometry, callers, words))
+}
+
+/// What a machine leaves.
+fn leave(alloc: Global, machine: Machine<PlainWords>) -> Result<Outcome, AllocError>
+    ensures { IfOk result (λ outcome. outcome ≡ outcome_of machine) }
+{
+    let geometry = machine.geometry();
+    let (callers, words) = machine.into_parts();
+    Ok(Outcome {
+        geometry,
+        answers: Listed::new(answers_of(alloc, &callers)?),
+        words: Listed::new(words.into_words()),
+    })
+}
+
+/// All turns of a scenario's schedule, on its built tables: each gives its caller one act, if it has one.
+/// The outcome is what the trace of the schedule leaves, and it stands for that trace's history.
+pub fn play(alloc: Global, scenario: &Scenario, tables: Tables) -> Result<Outcome, AllocError>
+    requires wellformed { WellFormed scenario.now }
+    requires accepted { IsAccepted scenario.now }
+    requires built { tables ≡ tables_of scenario.now.setup scenario.now.regions }
+    ensures trace { IfOk result (λ outcome. outcome ≡ outcome_of (played scenario.now)) }
+    ensures stands { IfOk result (λ outcome. StandsFor (first_map scenario.now) (played scenario.now) (played_history scenario.now)) }
+{
+    let mut machine = open(alloc, scenario, &tables)?;
+    machine.schedule(scenario.schedule.as_slice());
+    leave(alloc, machine)
+}

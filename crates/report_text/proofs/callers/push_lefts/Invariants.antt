@@ -1,0 +1,8 @@
+use Rattle.std.proofs.Common.{◌≡◌, ◌++◌, drop, string_bytes}
+use Rattle.report_text.specs.RunText.{left_text}
+use Rattle.report_text.proofs.callers.push_lefts.Given as goal
+
+abbrev pub invariant-loop-k : goal.invariant-loop-k
+invariant-loop-k l =
+    string_bytes l.out ++ left_text l.k (drop l.k l.scripts) (drop l.k l.answers)
+    ≡ string_bytes l.initial.out ++ left_text 0 l.scripts l.answers

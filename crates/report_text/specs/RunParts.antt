@@ -1,0 +1,51 @@
+-- Parts of the text of a run, as the functions append them.
+use Rattle.std.specs.Prelude.{ℕ, ◌+◌, ◌*◌, Bool, not, ◌&&◌, List, [], ◌∷◌, ◌++◌, codes, ◌==◌, if◌then◌else◌}
+use Rattle.std.specs.List.{flat_map, range_with_len}
+use Rattle.std.specs.Int.{bit_at}
+use Rattle.std.specs.Fmt.{signed_decimal}
+use Rattle.gpi_values.specs.declared.gpi.Space.{Space}
+use Rattle.gpi_values.specs.declared.gpi.Space.TheVariants as space
+use Rattle.gpi_values.specs.Names.{space_name_of}
+use Rattle.gpt_descriptors.specs.declared.size.Size.{Size}
+use Rattle.gpt_descriptors.specs.Places.{GeometryData}
+use Rattle.history.specs.declared.call.Answer.{Answer}
+use Rattle.history.specs.Legality.{is_seen}
+use Rattle.rmm_calls.specs.Codes.{code_of}
+use Rattle.scenario_text.specs.Spelling.{count, address}
+use Rattle.report_text.specs.TablesText.{line}
+use Rattle.report_text.specs.RunText.{size_name, space_number, held_line, generation_line, granule_lines}
+
+-- the code of a monitor call and its word, each behind a space
+abbrev pub code_text : Bool → Answer → List ℕ
+code_text smc a = if smc && not (is_seen a) then codes " code " ++ signed_decimal (code_of a) else []
+
+-- the line of a generation of this value
+abbrev pub changed_line : Size → ℕ → ℕ → ℕ → List ℕ
+changed_line z block value first =
+    if value == first then [] else line (codes "gen" ∷ size_name z ∷ count block ∷ count value ∷ [])
+
+-- the line of a granule in a space, by a bit of a line word
+abbrev pub set_line : ℕ → ℕ → ℕ → Space → List ℕ
+set_line pa word bit space =
+    if bit_at word bit == 1 then line (codes "line" ∷ address pa ∷ space_name_of space ∷ []) else []
+
+-- the lines of granule k of the sixteen of a line word
+unfoldable pub set_lines : ℕ → ℕ → ℕ → List ℕ
+set_lines pa word k =
+    flat_map (λ space. set_line pa word (4 * k + space_number space) space) (space.Secure ∷ space.NonSecure ∷ space.Root ∷ space.Realm ∷ [])
+
+-- the lines of so many granules of a line word, the first of which has this number
+unfoldable pub word_lines : ℕ → ℕ → ℕ → ℕ → List ℕ
+word_lines bytes word first n = flat_map (λ k. set_lines ((first + k) * bytes) word k) (range_with_len 0 n)
+
+-- the lines of so many granules from one on
+unfoldable pub granules_text : GeometryData → List ℕ → ℕ → ℕ → List ℕ
+granules_text g words first n = flat_map (granule_lines g words) (range_with_len first n)
+
+-- the first locks that are held
+unfoldable pub held_upto : List ℕ → ℕ → List ℕ
+held_upto words n = flat_map (held_line words) (range_with_len 0 n)
+
+-- the first generations of a size that have changed
+unfoldable pub generations_upto : GeometryData → List ℕ → Size → ℕ → List ℕ
+generations_upto g words z n = flat_map (generation_line g words z) (range_with_len 0 n)
