@@ -1,73 +1,52 @@
--- Each kind of act keeps the facts of the core.
-use Rattle.std.proofs.Common.{◌≡◌, ℕ, zero, suc, ◌+◌, ◌/◌, ◌%◌, ◌^◌, ◌<◌, ◌++◌, ◌∷◌, [], List, true, false, eqb, Option, Some, None, length, set, refl, sym, ap, ◌∙◌, subst, arith, inl, inr, append-nil}
-use Rattle.std.specs.Prelude.{slice_get, slice_index, slice_set}
-use Rattle.std.specs.Int.{bit_not, w64}
-use Rattle.std.specs.Int.Bits.{bit_and, bit_or}
-use Rattle.std.specs.Option.{option_map}
+-- A step of one caller keeps the facts of the core: what it has to show of the words, its own state and
+-- the entry that it makes.
+use Rattle.std.proofs.Common.{◌≡◌, ◌≢◌, ℕ, zero, suc, ◌+◌, ◌*◌, ◌/◌, ◌^◌, ◌<◌, ◌⊎◌, ◌++◌, ◌∷◌, [], List, true, false, ◌&&◌, eqb, Option, Some, None, length, set, refl, sym, ap, ◌∙◌, subst, arith, inl, inr, append-nil}
+use Rattle.std.specs.Prelude.{slice_get}
+use Rattle.std.specs.List.{count_by}
 use Rattle.std.proofs.Math.Nat.{div-le_self}
 use Rattle.std.proofs.lemmas.Bool.{cases_Bool, eqb-true, eq-eqb}
-use Rattle.std.proofs.lemmas.List.{length-set, set-get_or}
 use Rattle.std.proofs.lemmas.List.Elements.{All-set}
 use Rattle.gpi_values.specs.declared.gpi.Gpi.{Gpi}
-use Rattle.gpt_descriptors.specs.Sizes.{SetupData, IsSetup, granule_bytes, space_bytes, space_granules}
-use Rattle.gpt_descriptors.specs.Entries.{word_gpi}
-use Rattle.gpt_descriptors.specs.Places.{GeometryData, IsGeometry, Level1, place_of, word_count, l1_index_of, l1_place_of}
-use Rattle.gpt_descriptors.proofs.PlaceLemmas.{index_within, place_below}
-use Rattle.shared_words.specs.declared.act.Act.{Act}
-use Rattle.shared_words.specs.declared.act.Act.TheVariants as act
-use Rattle.shared_words.specs.Acts.{place_in, answer_of, after_act}
-use Rattle.bit_locks.specs.Locks.{lock_number, lock_bit, take_act, release_act}
+use Rattle.gpt_descriptors.specs.declared.size.Size.{Size}
+use Rattle.gpt_descriptors.specs.Sizes.{SetupData, IsSetup, granule_bytes, space_bytes}
+use Rattle.gpt_descriptors.specs.Places.{GeometryData, blocks_in_region}
+use Rattle.bit_locks.specs.Locks.{lock_number, lock_bit}
 use Rattle.history.specs.declared.call.Task.{Task}
 use Rattle.history.specs.declared.call.Answer.{Answer}
 use Rattle.history.specs.declared.entry.Entry.{Entry}
-use Rattle.history.specs.declared.entry.Entry.TheVariants as entry
+use Rattle.history.specs.Entries.{caller_in, call_in}
 use Rattle.history.specs.States.{State, start, after_entry, state_after}
-use Rattle.history.specs.Calls.{answered_entries}
+use Rattle.history.specs.Legality.{StateAllows}
+use Rattle.history.specs.Counts.{is_by, is_completion, count_of}
 use Rattle.history.proofs.HistoryLemmas.{state_after-append}
 use Rattle.delegate_ops.specs.declared.stage.Stage.{Stage}
 use Rattle.delegate_ops.specs.declared.stage.Stage.TheVariants as stage
-use Rattle.delegate_ops.specs.Deciding.{address_of, idle_answer, granule_place, looked_answer}
-use Rattle.delegate_ops.specs.Agents.{AgentData, IsAgent, IsReadable, task_of, lock_bit_of, act_at, goes_to, waits_at, after_answer, took_at}
-use Rattle.delegate_ops.proofs.DecidingLemmas.{acts_usable, acts_inside}
-use Rattle.delegate_ops.proofs.AgentLemmas.{goes_is_agent, waits_is_agent, answer_is_agent}
+use Rattle.delegate_ops.specs.Deciding.{address_of, idle_answer}
+use Rattle.delegate_ops.specs.Agents.{AgentData, IsAgent, task_of, goes_to}
+use Rattle.delegate_ops.proofs.DecidingLemmas.{acts_inside}
+use Rattle.delegate_ops.proofs.AgentLemmas.{at_stage}
 use Rattle.core_machine.specs.declared.caller.Caller.{Caller}
 use Rattle.core_machine.specs.declared.caller.Caller.TheVariants as caller
-use Rattle.core_machine.specs.Callers.{known_entries, made_at, own_of}
+use Rattle.core_machine.specs.Callers.{own_of, call_of, granule_of_task}
 use Rattle.core_machine.specs.Tables.{MeansMap}
-use Rattle.core_machine.specs.Locks.{holds}
+use Rattle.core_machine.specs.Locks.{is_inside, holds}
+use Rattle.core_machine.specs.Opened.{open_by, pairs_of, OpenAreHeld}
+use Rattle.core_machine.specs.Seen.{Sees}
+use Rattle.core_machine.specs.Raised.{is_due, generation_word}
+use Rattle.core_machine.specs.Alone.{is_on_block, IsAlone}
+use Rattle.core_machine.specs.Counted.{IsCounted, coming_at, known_answers, caller_tasks}
+use Rattle.core_machine.specs.Told.{Tells}
 use Rattle.core_machine.specs.Stands.{IsMade, Stands}
-use Rattle.core_machine.proofs.ListLemmas.{one}
-use Rattle.core_machine.proofs.LockLemmas.{locks_keep, holder_bit, take_free, take_held, release_held}
-use Rattle.core_machine.proofs.TableLemmas.{KeepsTables, tables_keep, locks_apart, granule_within, usable_aligned, word_readable, loaded_gpi}
-use Rattle.core_machine.proofs.ToldLemmas.{IsAdded, looked_added, added_state, added_allowed, tells_keep, answered_call}
+use Rattle.core_machine.proofs.ListLemmas.{one, get_set, get_append, get_front}
+use Rattle.core_machine.proofs.LockLemmas.{locks_keep}
+use Rattle.core_machine.proofs.OthersLemmas.{Holder, other_number, made_at_place, is_holder, holder_has}
+use Rattle.core_machine.proofs.ToldLemmas.{tells_keep}
+use Rattle.core_machine.proofs.OpenedLemmas.{opened_stays, others_closed}
+use Rattle.core_machine.proofs.RaisedLemmas.{generations_keep}
+use Rattle.core_machine.proofs.AloneLemmas.{undisturbed_more, alone_own, alone_other}
+use Rattle.core_machine.proofs.CountedLemmas.{counted_more}
 
--- ---- all facts at once
-
-pub stands_keep : (g : GeometryData) (first : List Gpi) (words after : List ℕ) (callers : List Caller) (h : List Entry) (c k granule : ℕ) (found : Option Gpi) (a x : Caller) (made : List Entry)
-    → Stands g first words callers h → slice_get callers c ≡ Some a
-    → length after ≡ length words → KeepsTables g words after → IsMade g x
-    → ((n : ℕ) → n < 128 → lock_bit after n + one (holds n a) ≡ lock_bit words n + one (holds n x))
-    → IsAdded c k granule found made → found ≡ slice_get (state_after (start first) h).map granule
-    → own_of c x ≡ own_of c a ++ made
-    → Stands g first after (set callers c x) (h ++ made)
-stands_keep g first words after callers h c k granule found a x made stands at size tables_kept made_so locks added gives own =
-    let same : state_after (start first) (h ++ made) ≡ state_after (start first) h =
-    state_after-append (start first) h made ∙ added_state (state_after (start first) h) c k granule found made added in
-    record {
-      shape = record {
-        geometry = stands.shape.geometry;
-        size = size ∙ stands.shape.size;
-        granules = stands.shape.granules;
-        made = All-set (IsMade g) callers c x made_so stands.shape.made;
-      };
-      tables = subst (λ (s : State). MeansMap g after s.map) (sym same) (tables_keep g words after (state_after (start first) h).map stands.shape.geometry tables_kept stands.tables);
-      closed = ap (λ (s : State). s.opened) same ∙ stands.closed;
-      locks = locks_keep words after callers c a x at stands.locks locks;
-      told = tells_keep first callers h c k granule found a x made at stands.told added own
-          (added_allowed (state_after (start first) h) c k granule found made stands.closed gives added);
-    }
-
--- ---- places
+-- ---- the caller that acts
 
 pub lock_low : (s : SetupData) (pa : ℕ) → IsSetup s → pa < space_bytes s → lock_number s pa < 128
 lock_low s pa setup inside =
@@ -77,148 +56,250 @@ lock_low s pa setup inside =
       | inr some ↦ rw some (omega (arith, blocks, div-le_self (pa / 2 ^ 29) s.lock_blocks))
     ]
 
-l1_low : (g : GeometryData) (pa place : ℕ) (o : Option ℕ) → IsGeometry g → l1_index_of g pa ≡ o → option_map (λ i. place_of g (Level1 i)) o ≡ Some place → place < word_count g
-l1_low g pa place None geometry index there = absurd cc
-l1_low g pa place (Some i) geometry index there =
-    let same : place_of g (Level1 i) ≡ place = cc in
-    subst (λ (p : ℕ). p < word_count g) same (place_below g (Level1 i) (index_within g pa i geometry index))
+-- caller c is an agent at a stage of a task with acts, and all facts stand
+pub record Acting (first : List Gpi) (words : List ℕ) (callers : List Caller) (h : List Entry) (c : ℕ) (a : AgentData) (t : Task) (s : Stage) : Type 0 where
+  pub stands : Stands a.geometry first words callers h
+  pub at : slice_get callers c ≡ Some (caller.Agent (at_stage a s))
+  pub is : IsAgent (at_stage a s)
+  pub under_way : task_of a ≡ Some t
+  pub acts : idle_answer a.geometry t ≡ None
 
--- ---- states
+-- its lock
+abbrev pub lock_of_task : AgentData → Task → ℕ
+lock_of_task a t = lock_number a.geometry.setup (address_of t)
 
-length_after : (s : State) (e : Entry) → length (after_entry s e).map ≡ length s.map
-length_after s (entry.Refused c k granule found) = refl
-length_after s (entry.Changed c k granule from to) = length-set s.map granule to
-length_after s (entry.Settled c k granule) = refl
-length_after s (entry.Looked c k granule space gpi allowed) = refl
+abbrev pub state_of : List Gpi → List Entry → State
+state_of first h = state_after (start first) h
 
-pub state_length : (s : State) (h : List Entry) → length (state_after s h).map ≡ length s.map
-state_length s [] = refl
-state_length s (e ∷ h) = state_length (after_entry s e) h ∙ length_after s e
+pub low_of : (first : List Gpi) (words : List ℕ) (callers : List Caller) (h : List Entry) (c : ℕ) (a : AgentData) (t : Task) (s : Stage) → Acting first words callers h c a t s → lock_of_task a t < 128
+low_of first words callers h c a t s acting = lock_low a.geometry.setup (address_of t) acting.stands.shape.geometry.setup (acts_inside a.geometry t acting.acts)
 
-get_there : (xs : List Gpi) (i : ℕ) → i < length xs → (x : Gpi) × (slice_get xs i ≡ Some x)
-get_there [] i within = absurd (omega arith)
-get_there (x ∷ xs) zero within = (x, refl)
-get_there (x ∷ xs) (suc i) within = get_there xs i (omega (arith, within))
+pub holder_of : (first : List Gpi) (words : List ℕ) (callers : List Caller) (h : List Entry) (c : ℕ) (a : AgentData) (t : Task) (s : Stage) → Acting first words callers h c a t s → is_inside s ≡ true
+    → Holder a.geometry callers c (at_stage a s) t
+holder_of first words callers h c a t s acting inside = record { at = acting.at; geometry = refl; inside = inside; under_way = acting.under_way; acts = acting.acts }
 
--- ---- the acts of an agent
+pub mades_of : (first : List Gpi) (words : List ℕ) (callers : List Caller) (h : List Entry) (c : ℕ) (a : AgentData) (t : Task) (s : Stage) → Acting first words callers h c a t s
+    → (d : ℕ) (y : Caller) → slice_get callers d ≡ Some y → IsMade a.geometry y
+mades_of first words callers h c a t s acting d y there = made_at_place a.geometry first words callers d y acting.stands.shape there
 
--- the agent at this stage
-abbrev pub at_stage : AgentData → Stage → AgentData
-at_stage a s = record { geometry = a.geometry; tasks = a.tasks; answers = a.answers; stage = s; waited = a.waited }
+-- the others hold nothing of its granule open
+pub closed_of : (first : List Gpi) (words : List ℕ) (callers : List Caller) (h : List Entry) (c : ℕ) (a : AgentData) (t : Task) (s : Stage) → Acting first words callers h c a t s → is_inside s ≡ true
+    → (d : ℕ) (y : Caller) → d ≢ c → slice_get callers d ≡ Some y → pairs_of (granule_of_task a.geometry t) (open_by y) ≡ []
+closed_of first words callers h c a t s acting inside d y apart there =
+    others_closed a.geometry words callers c d (at_stage a s) t y acting.stands.locks (low_of first words callers h c a t s acting) (holder_of first words callers h c a t s acting inside) apart there
+    (mades_of first words callers h c a t s acting d y there)
 
--- what an act keeps that is made at a stage
-abbrev pub ActKeeps : List Gpi → List ℕ → List Caller → List Entry → ℕ → AgentData → Task → Stage → Act → Type 0
-ActKeeps first words callers h c a t s next =
-    (place_in next < length words) × IsReadable s (answer_of next words)
-    × Stands a.geometry first (after_act next words) (slice_set callers c (caller.Agent (took_at (at_stage a s) t s (answer_of next words))))
-    (h ++ made_at a.geometry c (length a.answers) s (Some t) (answer_of next words))
+-- another holder has another lock
+pub other_lock : (first : List Gpi) (words : List ℕ) (callers : List Caller) (h : List Entry) (c : ℕ) (a : AgentData) (t : Task) (s : Stage) → Acting first words callers h c a t s → is_inside s ≡ true
+    → (d : ℕ) (b : AgentData) (u : Task) → d ≢ c → Holder a.geometry callers d b u → lock_number a.geometry.setup (address_of u) ≢ lock_of_task a t
+other_lock first words callers h c a t s acting inside d b u apart theirs =
+    other_number a.geometry words callers c d (at_stage a s) b t u acting.stands.locks (low_of first words callers h c a t s acting) (holder_of first words callers h c a t s acting inside) theirs apart
 
-pub take_keeps : (first : List Gpi) (words : List ℕ) (callers : List Caller) (h : List Entry) (c : ℕ) (a : AgentData) (t : Task)
-    → Stands a.geometry first words callers h → slice_get callers c ≡ Some (caller.Agent (at_stage a stage.Locking)) → IsAgent (at_stage a stage.Locking) → task_of a ≡ Some t → idle_answer a.geometry t ≡ None
-    → ActKeeps first words callers h c a t stage.Locking (take_act (lock_bit_of a.geometry t))
-take_keeps first words callers h c a t stands at is under_way acts =
-    let n = lock_number a.geometry.setup (address_of t) in
-    let low : n < 128 = lock_low a.geometry.setup (address_of t) stands.shape.geometry.setup (acts_inside a.geometry t acts) in
-    let row : n / 64 < 2 = omega (arith, low) in
-    let within : n / 64 < length words = omega (arith, low, stands.shape.size) in
-    let word = slice_index words (n / 64) in
-    let after = set words (n / 64) (bit_or word (2 ^ (n % 64))) in
-    let front = answered_entries (granule_bytes a.geometry.setup) c 0 a.tasks a.answers in
-    let given = slice_get (state_after (start first) h).map 0 in (
-      within,
-      tt,
-      elim (cases_Bool (eqb (bit_and word (2 ^ (n % 64))) 0)) [
-        | inl free ↦ rw free
-            (stands_keep a.geometry first words after callers h c 0 0 given (caller.Agent (at_stage a stage.Locking)) (caller.Agent (goes_to (at_stage a stage.Locking) stage.Looking)) []
-            stands at (length-set words (n / 64) _) (locks_apart a.geometry words (n / 64) _ row) (refl, goes_is_agent (at_stage a stage.Locking) stage.Looking is)
-            (λ m below. rw under_way (take_free words n m within (eqb-true _ _ free))) (inl refl) refl (sym (append-nil (front ++ []))))
-        | inr held ↦ rw held
-            (stands_keep a.geometry first words after callers h c 0 0 given (caller.Agent (at_stage a stage.Locking)) (caller.Agent (waits_at (at_stage a stage.Locking))) []
-            stands at (length-set words (n / 64) _) (locks_apart a.geometry words (n / 64) _ row) (refl, waits_is_agent (at_stage a stage.Locking) is)
-            (λ m below. ap (λ (bit : ℕ). bit + 0) (take_held words n m within (λ free. absurd (let both = eq-eqb _ _ free in cc)))) (inl refl) refl (sym (append-nil (front ++ []))))
-      ],
-    )
+-- whoever holds a lock holds that of its own task
+held_by : (g : GeometryData) (callers : List Caller) (d n : ℕ) (b : AgentData) (o : Option Task) → slice_get callers d ≡ Some (caller.Agent b) → IsMade g (caller.Agent b) → task_of b ≡ o → holds n (caller.Agent b) ≡ true
+    → (b : AgentData) × (u : Task) × Holder g callers d b u × (lock_number g.setup (address_of u) ≡ n)
+held_by g callers d n b None there made under_way has =
+    absurd (elim (cases_Bool (is_inside b.stage)) [ inl inside ↦ (let both : false ≡ true = rw (inside, under_way) at has in cc) | inr outside ↦ (let both : false ≡ true = rw outside at has in cc) ])
+held_by g callers d n b (Some u) there made under_way has =
+    elim (cases_Bool (is_inside b.stage)) [
+      | inl inside ↦ (
+        b,
+        u,
+        is_holder g callers d b u there made under_way inside,
+        ap (λ (k : GeometryData). lock_number k.setup (address_of u)) (sym made.0) ∙ eqb-true _ _ (rw (inside, under_way) at has),
+      )
+      | inr outside ↦ absurd (let both : false ≡ true = rw outside at has in cc)
+    ]
 
--- the facts that a release needs
-released : (first : List Gpi) (words : List ℕ) (callers : List Caller) (h : List Entry) (c n : ℕ) (a x : AgentData) (t : Task) (o : Option Answer)
-    → n ≡ lock_number a.geometry.setup (address_of t) → n < 128
-    → Stands a.geometry first words callers h → slice_get callers c ≡ Some (caller.Agent (at_stage a (stage.Releasing o))) → task_of a ≡ Some t
-    → IsMade a.geometry (caller.Agent x) → ((m : ℕ) → holds m (caller.Agent x) ≡ false) → own_of c (caller.Agent x) ≡ own_of c (caller.Agent (at_stage a (stage.Releasing o))) ++ []
-    → Stands a.geometry first (set words (n / 64) (bit_and (slice_index words (n / 64)) (bit_not w64 (2 ^ (n % 64))))) (set callers c (caller.Agent x)) (h ++ [])
-released first words callers h c n a x t o number low stands at under_way made none own =
-    let within : n / 64 < length words = omega (arith, low, stands.shape.size) in
-    let row : n / 64 < 2 = omega (arith, low) in
-    let given = slice_get (state_after (start first) h).map 0 in
-    let has : holds n (caller.Agent (at_stage a (stage.Releasing o))) ≡ true = rw under_way (eq-eqb _ n (sym number)) in
-    let set_bit : lock_bit words n ≡ 1 = holder_bit words callers c n (caller.Agent (at_stage a (stage.Releasing o))) at stands.locks low has in
-    stands_keep a.geometry first words _ callers h c 0 0 given (caller.Agent (at_stage a (stage.Releasing o))) (caller.Agent x) []
-    stands at (length-set words (n / 64) _) (locks_apart a.geometry words (n / 64) _ row) made
-    (λ m below. rw (under_way, none m, ← number) (release_held words n m within set_bit)) (inl refl) refl own
+held_number : (g : GeometryData) (callers : List Caller) (d n : ℕ) (y : Caller) → slice_get callers d ≡ Some y → IsMade g y → holds n y ≡ true
+    → (b : AgentData) × (u : Task) × Holder g callers d b u × (lock_number g.setup (address_of u) ≡ n)
+held_number g callers d n (caller.Cpu looks) there made has = absurd cc
+held_number g callers d n (caller.Agent b) there made has = held_by g callers d n b (task_of b) there made refl has
 
-pub release_keeps : (first : List Gpi) (words : List ℕ) (callers : List Caller) (h : List Entry) (c : ℕ) (a : AgentData) (t : Task) (o : Option Answer)
-    → Stands a.geometry first words callers h → slice_get callers c ≡ Some (caller.Agent (at_stage a (stage.Releasing o))) → IsAgent (at_stage a (stage.Releasing o)) → task_of a ≡ Some t → idle_answer a.geometry t ≡ None
-    → ActKeeps first words callers h c a t (stage.Releasing o) (release_act (lock_bit_of a.geometry t))
-release_keeps first words callers h c a t None stands at is under_way acts =
-    let low : lock_number a.geometry.setup (address_of t) < 128 = lock_low a.geometry.setup (address_of t) stands.shape.geometry.setup (acts_inside a.geometry t acts) in
-    let front = answered_entries (granule_bytes a.geometry.setup) c 0 a.tasks a.answers in (
-      omega (arith, low, stands.shape.size),
-      tt,
-      released first words callers h c _ a (goes_to (at_stage a (stage.Releasing None)) stage.Stopped) t None refl low stands at under_way
-          (refl, goes_is_agent (at_stage a (stage.Releasing None)) stage.Stopped is) (λ m. refl) (rw under_way (sym (append-nil (front ++ [])))),
-    )
-release_keeps first words callers h c a t (Some answer) stands at is under_way acts =
-    let low : lock_number a.geometry.setup (address_of t) < 128 = lock_low a.geometry.setup (address_of t) stands.shape.geometry.setup (acts_inside a.geometry t acts) in (
-      omega (arith, low, stands.shape.size),
-      tt,
-      released first words callers h c _ a (after_answer (at_stage a (stage.Releasing (Some answer))) answer) t (Some answer) refl low stands at under_way
-          (refl, answer_is_agent (at_stage a (stage.Releasing (Some answer))) t answer is under_way) (λ m. refl)
-          (rw (under_way, answered_call a.geometry (granule_bytes a.geometry.setup) c a.tasks a.answers t answer under_way) refl),
-    )
+-- ---- a step that tells nothing
 
--- ---- looking
+pub record Quietly (first : List Gpi) (words after : List ℕ) (callers : List Caller) (h : List Entry) (c : ℕ) (a : AgentData) (me x : Caller) : Type 0 where
+  pub size : length after ≡ length words
+  pub made : IsMade a.geometry x
+  pub tables : MeansMap a.geometry after (state_of first h).map
+  pub opened : open_by x ≡ open_by me
+  pub locks : (n : ℕ) → n < 128 → lock_bit after n + one (holds n me) ≡ lock_bit words n + one (holds n x)
+  pub seen : Sees after x
+  pub others : (d : ℕ) (y : Caller) → d ≢ c → slice_get callers d ≡ Some y → Sees after y
+  pub raised : (y : Size) (region : ℕ) → region < blocks_in_region y * a.geometry.setup.gigabytes
+      → generation_word a.geometry after y region + one (is_due y region x) ≡ generation_word a.geometry words y region + one (is_due y region me)
+  pub alone : (n : ℕ) → holds n x ≡ true → IsAlone a.geometry.setup n c (call_of x) h
+  pub tasks : caller_tasks x ≡ caller_tasks me
+  pub counted : (k : ℕ) (u : Task) (told : Answer) → slice_get (caller_tasks me) k ≡ Some u → slice_get (known_answers x) k ≡ Some told → IsCounted a.geometry c k u told h
+  pub own : own_of c x ≡ own_of c me
 
-look_act : (g : GeometryData) (pa : ℕ) (o : Option ℕ) (next : Act) → option_map act.Load o ≡ Some next → (place : ℕ) × (o ≡ Some place) × (next ≡ act.Load place)
-look_act g pa None next e = absurd cc
-look_act g pa (Some place) next e = (place, refl, let same : next ≡ act.Load place = cc in same)
+pub quiet_keep : (first : List Gpi) (words after : List ℕ) (callers : List Caller) (h : List Entry) (c : ℕ) (a : AgentData) (me x : Caller) → Stands a.geometry first words callers h → slice_get callers c ≡ Some me
+    → Quietly first words after callers h c a me x → Stands a.geometry first after (set callers c x) (h ++ [])
+quiet_keep first words after callers h c a me x stands at q =
+    let same : h ++ [] ≡ h = append-nil h in
+    subst (λ (l : List Entry). Stands a.geometry first after (set callers c x) l) (sym same)
+    (record {
+      shape = record {
+        geometry = stands.shape.geometry;
+        size = q.size ∙ stands.shape.size;
+        granules = stands.shape.granules;
+        made = All-set (IsMade a.geometry) callers c x q.made stands.shape.made;
+      };
+      tables = q.tables;
+      opened = opened_stays (state_of first h).opened (state_of first h).opened callers c me x at stands.opened refl q.opened;
+      locks = locks_keep words after callers c me x at stands.locks q.locks;
+      seen = λ d y there. elim (get_set callers c d x y there) [ inl here ↦ subst (Sees after) here.1 q.seen | inr away ↦ q.others d y away.0 away.1 ];
+      generations = subst (λ (l : List Entry). (y : Size) (region : ℕ) → region < blocks_in_region y * a.geometry.setup.gigabytes
+          → generation_word a.geometry after y region + count_by (is_due y region) (set callers c x) ≡ count_of a.geometry.setup.first (granule_bytes a.geometry.setup) y region l) same
+          (generations_keep a.geometry words after callers h c me x [] at stands.generations
+          (λ y region within. rw same (ap (λ (n : ℕ). n + count_of a.geometry.setup.first (granule_bytes a.geometry.setup) y region h) (q.raised y region within))));
+      undisturbed = stands.undisturbed;
+      alone = λ d n y there has.
+          elim (get_set callers c d x y there) [
+            | inl here ↦ subst (λ (z : Caller). IsAlone a.geometry.setup n d (call_of z) h) here.1 (subst (λ (m : ℕ). IsAlone a.geometry.setup n m (call_of x) h) (sym here.0) (q.alone n (subst (λ (z : Caller). holds n z ≡ true) (sym here.1) has)))
+            | inr away ↦ stands.alone d n y away.1 has
+          ];
+      counted = λ d k y u told there asked answered.
+          elim (get_set callers c d x y there) [
+            | inl here ↦ subst (λ (m : ℕ). IsCounted a.geometry m k u told h) (sym here.0)
+                (q.counted k u told (subst (λ (tasks : List Task). slice_get tasks k ≡ Some u) q.tasks (subst (λ (z : Caller). slice_get (caller_tasks z) k ≡ Some u) (sym here.1) asked))
+                (subst (λ (z : Caller). slice_get (known_answers z) k ≡ Some told) (sym here.1) answered))
+            | inr away ↦ stands.counted d k y u told away.1 asked answered
+          ];
+      told = subst (Tells first (set callers c x)) same
+          (tells_keep first callers h c 0 me x [] at stands.told (inl refl) (q.own ∙ sym (append-nil (own_of c me))) tt);
+    })
 
-pub look_keeps : (first : List Gpi) (words : List ℕ) (callers : List Caller) (h : List Entry) (c place : ℕ) (a : AgentData) (t : Task)
-    → Stands a.geometry first words callers h → slice_get callers c ≡ Some (caller.Agent (at_stage a stage.Looking)) → IsAgent (at_stage a stage.Looking) → task_of a ≡ Some t → idle_answer a.geometry t ≡ None
-    → l1_place_of a.geometry (address_of t) ≡ Some place → ActKeeps first words callers h c a t stage.Looking (act.Load place)
-look_keeps first words callers h c place a t stands at is under_way acts there =
-    let g = a.geometry in
-    let bytes = granule_bytes g.setup in
-    let pa = address_of t in
-    let word = slice_index words place in
-    let map = (state_after (start first) h).map in
-    let inside : pa < space_bytes g.setup = acts_inside g t acts in
-    let aligned : pa % bytes ≡ 0 = usable_aligned g pa (acts_usable g t acts) in
-    let low : place < length words = subst (λ (n : ℕ). place < n) (sym stands.shape.size) (l1_low g pa place (l1_index_of g pa) stands.shape.geometry refl there) in
-    let gives : word_gpi word (granule_place g pa) ≡ slice_get map (pa / bytes) = loaded_gpi g words map pa place stands.tables inside aligned there in
-    let count : length map ≡ space_granules g.setup = state_length (start first) h ∙ stands.shape.granules in
-    let has = get_there map (pa / bytes) (subst (λ (n : ℕ). pa / bytes < n) (sym count) (granule_within g.setup pa inside)) in
-    let front = answered_entries bytes c 0 a.tasks a.answers in
-    let made = known_entries bytes c (length a.answers) t (looked_answer g t word) in
-    let unchanged : set words place word ≡ words = set-get_or words place 0 in (
-      low,
-      word_readable word (granule_place g pa) has.0 (gives ∙ has.1),
-      rw unchanged
-          (stands_keep g first words words callers h c (length a.answers) (pa / bytes) (word_gpi word (granule_place g pa)) (caller.Agent (at_stage a stage.Looking))
-          (caller.Agent (goes_to (at_stage a stage.Looking) (stage.Releasing (looked_answer g t word)))) made
-          stands at refl (λ i within. refl) (refl, goes_is_agent (at_stage a stage.Looking) _ is) (λ m below. refl)
-          (looked_added bytes c (length a.answers) t (word_gpi word (granule_place g pa))) gives
-          (rw (under_way, append-nil front) refl)),
-    )
+-- ---- a step that tells one entry of its call, and stays inside
 
--- ---- any act of an agent
+pub record Telling (first : List Gpi) (words after : List ℕ) (callers : List Caller) (h : List Entry) (c : ℕ) (a : AgentData) (t : Task) (s next : Stage) (e : Entry) : Type 0 where
+  pub inside : is_inside s ≡ true
+  pub stays : is_inside next ≡ true
+  pub size : length after ≡ length words
+  pub made : IsMade a.geometry (caller.Agent (goes_to (at_stage a s) next))
+  pub by : (caller_in e ≡ c) × (call_in e ≡ length a.answers)
+  pub block : (n : ℕ) → is_on_block a.geometry.setup n e ≡ true → n ≡ lock_of_task a t
+  pub allowed : StateAllows (state_of first h) e
+  pub tables : MeansMap a.geometry after (after_entry (state_of first h) e).map
+  pub opened : OpenAreHeld (after_entry (state_of first h) e).opened (set callers c (caller.Agent (goes_to (at_stage a s) next)))
+  pub locks : (n : ℕ) → n < 128 → lock_bit after n ≡ lock_bit words n
+  pub seen : Sees after (caller.Agent (goes_to (at_stage a s) next))
+  pub others : (d : ℕ) (y : Caller) → d ≢ c → slice_get callers d ≡ Some y → Sees after y
+  pub raised : (y : Size) (region : ℕ) → region < blocks_in_region y * a.geometry.setup.gigabytes
+      → generation_word a.geometry after y region + one (is_due y region (caller.Agent (goes_to (at_stage a s) next))) + count_of a.geometry.setup.first (granule_bytes a.geometry.setup) y region h
+      ≡ generation_word a.geometry words y region + one (is_due y region (caller.Agent (at_stage a s))) + count_of a.geometry.setup.first (granule_bytes a.geometry.setup) y region (h ++ e ∷ [])
+  pub coming : (told : Answer) → coming_at next ≡ told ∷ [] → IsCounted a.geometry c (length a.answers) t told (h ++ e ∷ [])
+  pub own : own_of c (caller.Agent (goes_to (at_stage a s) next)) ≡ own_of c (caller.Agent (at_stage a s)) ++ e ∷ []
 
-pub agent_keeps : (first : List Gpi) (words : List ℕ) (callers : List Caller) (h : List Entry) (c : ℕ) (a : AgentData) (t : Task) (s : Stage) (next : Act)
-    → Stands a.geometry first words callers h → slice_get callers c ≡ Some (caller.Agent (at_stage a s)) → IsAgent (at_stage a s) → task_of a ≡ Some t → idle_answer a.geometry t ≡ None
-    → act_at a.geometry s t ≡ Some next → ActKeeps first words callers h c a t s next
-agent_keeps first words callers h c a t stage.Locking next stands at is under_way acts e =
-    subst (ActKeeps first words callers h c a t stage.Locking) (let same : take_act (lock_bit_of a.geometry t) ≡ next = cc in same) (take_keeps first words callers h c a t stands at is under_way acts)
-agent_keeps first words callers h c a t stage.Looking next stands at is under_way acts e =
-    let look = look_act a.geometry (address_of t) (l1_place_of a.geometry (address_of t)) next e in
-    subst (ActKeeps first words callers h c a t stage.Looking) (sym look.2) (look_keeps first words callers h c look.0 a t stands at is under_way acts look.1)
-agent_keeps first words callers h c a t (stage.Releasing o) next stands at is under_way acts e =
-    subst (ActKeeps first words callers h c a t (stage.Releasing o)) (let same : release_act (lock_bit_of a.geometry t) ≡ next = cc in same) (release_keeps first words callers h c a t o stands at is under_way acts)
-agent_keeps first words callers h c a t stage.Stopped next stands at is under_way acts e = absurd cc
+is_by_own : (c k : ℕ) (e : Entry) → caller_in e ≡ c → call_in e ≡ k → is_by c k e ≡ true
+is_by_own c k e mine call = rw (eq-eqb (caller_in e) c mine, eq-eqb (call_in e) k call) refl
+
+is_by_other : (c d k j : ℕ) (e : Entry) → caller_in e ≡ c → call_in e ≡ k → ((d ≢ c) ⊎ (j ≢ k)) → (is_completion e && is_by d j e) ≡ false
+is_by_other c d k j e mine call apart =
+    elim (cases_Bool (is_completion e)) [
+      | inr other ↦ rw other refl
+      | inl completion ↦ rw completion (elim (cases_Bool (eqb (caller_in e) d)) [
+        | inr other ↦ rw other refl
+        | inl same ↦ rw same (elim (cases_Bool (eqb (call_in e) j)) [
+          | inr other ↦ other
+          | inl call_same ↦ absurd (elim apart [ inl d_apart ↦ d_apart (sym (eqb-true _ _ same) ∙ mine) | inr j_apart ↦ j_apart (sym (eqb-true _ _ call_same) ∙ call) ])
+        ])
+      ])
+    ]
+
+one_item : (xs : List Answer) (i : ℕ) (told : Answer) → length xs < 2 → slice_get xs i ≡ Some told → (i ≡ 0) × (xs ≡ told ∷ [])
+one_item [] i told few there = absurd cc
+one_item (x ∷ []) zero told few there = (refl, let same : x ≡ told = cc in ap (λ (y : Answer). y ∷ []) same)
+one_item (x ∷ []) (suc i) told few there = absurd cc
+one_item (x ∷ y ∷ xs) i told few there = absurd (omega (arith, few))
+
+coming_few : (s : Stage) → length (coming_at s) < 2
+coming_few (stage.Releasing (Some told)) = omega arith
+coming_few (stage.Releasing None) = omega arith
+coming_few stage.Locking = omega arith
+coming_few stage.Looking = omega arith
+coming_few (stage.Reading z k) = omega arith
+coming_few (stage.Changing c k) = omega arith
+coming_few (stage.Raising c z k) = omega arith
+coming_few stage.Stopped = omega arith
+
+-- the answer of a call that goes on to this stage: an earlier one, or the one that is to come
+pub known_parts : (answers : List Answer) (s : Stage) (k : ℕ) (told : Answer) → slice_get (answers ++ coming_at s) k ≡ Some told
+    → ((k < length answers) × (slice_get answers k ≡ Some told)) ⊎ ((k ≡ length answers) × (coming_at s ≡ told ∷ []))
+known_parts answers s k told there =
+    elim (get_append answers (coming_at s) k told there) [
+      | inl front ↦ inl front
+      | inr back ↦ (let one = one_item (coming_at s) back.0 told (coming_few s) back.2 in inr (let same : k ≡ length answers = omega (arith, back.1, one.0) in same, one.1))
+    ]
+
+holds_same : (a : AgentData) (s next : Stage) (n : ℕ) → is_inside s ≡ true → is_inside next ≡ true → holds n (caller.Agent (goes_to (at_stage a s) next)) ≡ holds n (caller.Agent (at_stage a s))
+holds_same a s next n inside stays = rw (inside, stays) refl
+
+-- its own answers tell the counts
+own_counted : (first : List Gpi) (words after : List ℕ) (callers : List Caller) (h : List Entry) (c : ℕ) (a : AgentData) (t : Task) (s next : Stage) (e : Entry) (k : ℕ) (u : Task) (told : Answer) → Acting first words callers h c a t s
+    → Telling first words after callers h c a t s next e → slice_get a.tasks k ≡ Some u → slice_get (a.answers ++ coming_at next) k ≡ Some told → IsCounted a.geometry c k u told (h ++ e ∷ [])
+own_counted first words after callers h c a t s next e k u told acting tells asked answered =
+    elim (known_parts a.answers next k told answered) [
+      | inl old ↦
+          counted_more a.geometry c k u told h e
+          (acting.stands.counted c k (caller.Agent (at_stage a s)) u told acting.at asked (get_front a.answers (coming_at s) k told old.1))
+          (is_by_other c c (length a.answers) k e tells.by.0 tells.by.1 (inr (λ same. omega (arith, same, old.0))))
+      | inr new ↦
+          (let task : t ≡ u = let both : Some t ≡ Some u = sym acting.under_way ∙ ap (slice_get a.tasks) (sym new.0) ∙ asked in cc in
+          subst (λ (m : ℕ). IsCounted a.geometry c m u told (h ++ e ∷ [])) (sym new.0)
+          (subst (λ (v : Task). IsCounted a.geometry c (length a.answers) v told (h ++ e ∷ [])) task (tells.coming told new.1)))
+    ]
+
+pub telling_keep : (first : List Gpi) (words after : List ℕ) (callers : List Caller) (h : List Entry) (c : ℕ) (a : AgentData) (t : Task) (s next : Stage) (e : Entry) → Acting first words callers h c a t s
+    → Telling first words after callers h c a t s next e → Stands a.geometry first after (set callers c (caller.Agent (goes_to (at_stage a s) next))) (h ++ e ∷ [])
+telling_keep first words after callers h c a t s next e acting tells =
+    let stands = acting.stands in
+    let me = caller.Agent (at_stage a s) in
+    let x = caller.Agent (goes_to (at_stage a s) next) in
+    let same : state_of first (h ++ e ∷ []) ≡ after_entry (state_of first h) e = state_after-append (start first) h (e ∷ []) in
+    let mine = holder_of first words callers h c a t s acting tells.inside in
+    let own_number : holds (lock_of_task a t) me ≡ true = holder_has a.geometry callers c (at_stage a s) t mine in
+    record {
+      shape = record {
+        geometry = stands.shape.geometry;
+        size = tells.size ∙ stands.shape.size;
+        granules = stands.shape.granules;
+        made = All-set (IsMade a.geometry) callers c x tells.made stands.shape.made;
+      };
+      tables = subst (λ (st : State). MeansMap a.geometry after st.map) (sym same) tells.tables;
+      opened = subst (λ (st : State). OpenAreHeld st.opened (set callers c x)) (sym same) tells.opened;
+      locks = locks_keep words after callers c me x acting.at stands.locks
+          (λ n below. rw (tells.locks n below, holds_same a s next n tells.inside tells.stays) refl);
+      seen = λ d y there. elim (get_set callers c d x y there) [ inl here ↦ subst (Sees after) here.1 tells.seen | inr away ↦ tells.others d y away.0 away.1 ];
+      generations = generations_keep a.geometry words after callers h c me x (e ∷ []) acting.at stands.generations tells.raised;
+      undisturbed = undisturbed_more a.geometry.setup h e c (length a.answers) (lock_of_task a t) stands.undisturbed
+          (stands.alone c (lock_of_task a t) me acting.at own_number) (is_by_own c (length a.answers) e tells.by.0 tells.by.1) tells.block;
+      alone = λ d n y there has.
+          elim (get_set callers c d x y there) [
+            | inl here ↦
+                subst (λ (z : Caller). IsAlone a.geometry.setup n d (call_of z) (h ++ e ∷ [])) here.1
+                (subst (λ (m : ℕ). IsAlone a.geometry.setup n m (length a.answers) (h ++ e ∷ [])) (sym here.0)
+                (alone_own a.geometry.setup n c (length a.answers) h e
+                (stands.alone c n me acting.at (sym (holds_same a s next n tells.inside tells.stays) ∙ subst (λ (z : Caller). holds n z ≡ true) (sym here.1) has))
+                (is_by_own c (length a.answers) e tells.by.0 tells.by.1)))
+            | inr away ↦
+                alone_other a.geometry.setup n d (call_of y) h e (stands.alone d n y away.1 has)
+                (elim (cases_Bool (is_on_block a.geometry.setup n e)) [
+                  | inr other ↦ other
+                  | inl on ↦
+                      absurd
+                      (let theirs = held_number a.geometry callers d n y away.1 (mades_of first words callers h c a t s acting d y away.1) has in
+                      other_lock first words callers h c a t s acting tells.inside d theirs.0 theirs.1 away.0 theirs.2 (theirs.3 ∙ tells.block n on))
+                ])
+          ];
+      counted = λ d k y u told there asked answered.
+          elim (get_set callers c d x y there) [
+            | inl here ↦
+                subst (λ (m : ℕ). IsCounted a.geometry m k u told (h ++ e ∷ [])) (sym here.0)
+                (own_counted first words after callers h c a t s next e k u told acting tells (subst (λ (z : Caller). slice_get (caller_tasks z) k ≡ Some u) (sym here.1) asked)
+                (subst (λ (z : Caller). slice_get (known_answers z) k ≡ Some told) (sym here.1) answered))
+            | inr away ↦
+                counted_more a.geometry d k u told h e (stands.counted d k y u told away.1 asked answered) (is_by_other c d (length a.answers) k e tells.by.0 tells.by.1 (inl away.0))
+          ];
+      told = tells_keep first callers h c (length a.answers) me x (e ∷ []) acting.at stands.told (inr (e, refl, tells.by.0, tells.by.1)) tells.own (tells.allowed, tt);
+    }

@@ -1,7 +1,8 @@
--- One item of a list is set.
-use Rattle.std.proofs.Common.{◌≡◌, ◌≢◌, ℕ, zero, suc, ◌+◌, ◌∷◌, [], ◌⊎◌, List, Bool, cond, Some, get_or, set, refl, sym, ap, ◌∙◌, arith, inl, inr}
+-- Lists: one item is set, two stand in a row, one stands alone.
+use Rattle.std.proofs.Common.{◌≡◌, ◌≢◌, ℕ, zero, suc, ◌+◌, ◌<◌, ◌++◌, ◌∷◌, [], ◌⊎◌, length, List, Bool, cond, Some, get_or, set, refl, sym, ap, ◌∙◌, arith, inl, inr}
 use Rattle.std.specs.Prelude.{slice_get}
-use Rattle.std.specs.List.{count_by}
+use Rattle.std.specs.List.{All, count_by}
+use Rattle.std.proofs.lemmas.List.Elements.{All-nil, All-cons}
 use Rattle.std.proofs.lemmas.List.Sums.{sum_by-set}
 use Rattle.std.proofs.lemmas.Option.{slice_get_within, get_or_from_slice_get}
 
@@ -17,6 +18,36 @@ get_set (w ∷ xs) (suc c) (suc d) x y e =
       | inr there ↦ inr (λ same. there.0 (omega (arith, same)), there.1)
     ]
 
+pub get_set_same : {X : Type 0} (xs : List X) (c : ℕ) (x : X) → c < length xs → slice_get (set xs c x) c ≡ Some x
+get_set_same [] c x within = absurd (omega arith)
+get_set_same (w ∷ xs) zero x within = refl
+get_set_same (w ∷ xs) (suc c) x within = get_set_same xs c x (omega (arith, within))
+
+pub get_set_here : {X : Type 0} (xs : List X) (c : ℕ) (a x : X) → slice_get xs c ≡ Some a → slice_get (set xs c x) c ≡ Some x
+get_set_here xs c a x at = get_set_same xs c x (slice_get_within xs c a at)
+
+pub get_set_other : {X : Type 0} (xs : List X) (c d : ℕ) (x : X) → d ≢ c → slice_get (set xs c x) d ≡ slice_get xs d
+get_set_other [] c d x other = refl
+get_set_other (w ∷ xs) zero zero x other = absurd (other refl)
+get_set_other (w ∷ xs) zero (suc d) x other = refl
+get_set_other (w ∷ xs) (suc c) zero x other = refl
+get_set_other (w ∷ xs) (suc c) (suc d) x other = get_set_other xs c d x (λ same. other (ap suc same))
+
+-- what stands in two lists in a row
+pub get_append : {X : Type 0} (xs ys : List X) (k : ℕ) (v : X) → slice_get (xs ++ ys) k ≡ Some v → ((k < length xs) × (slice_get xs k ≡ Some v)) ⊎ ((i : ℕ) × (k ≡ length xs + i) × (slice_get ys i ≡ Some v))
+get_append [] ys k v there = inr (k, omega arith, there)
+get_append (x ∷ xs) ys zero v there = inl (omega arith, there)
+get_append (x ∷ xs) ys (suc k) v there =
+    elim (get_append xs ys k v there) [
+      | inl front ↦ inl (omega (arith, front.0), front.1)
+      | inr back ↦ inr (back.0, omega (arith, back.1), back.2)
+    ]
+
+pub get_front : {X : Type 0} (xs ys : List X) (k : ℕ) (v : X) → slice_get xs k ≡ Some v → slice_get (xs ++ ys) k ≡ Some v
+get_front [] ys k v there = absurd cc
+get_front (x ∷ xs) ys zero v there = there
+get_front (x ∷ xs) ys (suc k) v there = get_front xs ys k v there
+
 abbrev pub one : Bool → ℕ
 one b = cond b 1 0
 
@@ -25,3 +56,6 @@ pub count_set : {X : Type 0} (p : X → Bool) (xs : List X) (c : ℕ) (old new :
 count_set {X = X} p xs c old new at =
     let here : get_or xs c old ≡ old = get_or_from_slice_get xs c old old at in
     ap (λ (x : X). count_by p (set xs c new) + one (p x)) (sym here) ∙ sum_by-set (λ x. one (p x)) xs c new old (slice_get_within xs c old at)
+
+pub all_one : {X : Type 0} (P : X → Type 0) (x : X) → P x → All P (x ∷ [])
+all_one P x here = All-cons P x [] here (All-nil P)

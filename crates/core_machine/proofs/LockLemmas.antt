@@ -19,7 +19,7 @@ pub locks_keep : (words after : List ℕ) (callers : List Caller) (c : ℕ) (a x
 locks_keep words after callers c a x at held change n below =
     omega (arith, held n below, change n below, count_set (holds n) callers c a x at)
 
-some_pass : (p : Caller → Bool) (callers : List Caller) (c : ℕ) (a : Caller) → slice_get callers c ≡ Some a → p a ≡ true → 1 ≤ count_by p callers
+pub some_pass : (p : Caller → Bool) (callers : List Caller) (c : ℕ) (a : Caller) → slice_get callers c ≡ Some a → p a ≡ true → 1 ≤ count_by p callers
 some_pass p [] c a at passes = absurd cc
 some_pass p (x ∷ callers) zero a at passes =
     let same : x ≡ a = cc in

@@ -1,5 +1,5 @@
 -- Turns: what they keep.
-use Rattle.std.proofs.Common.{◌≡◌, ℕ, take, replicate, ◌<◌, ◌++◌, ◌∷◌, [], List, zero, suc, get_or, set, ◌+◌, ◌/◌, ◌%◌, false, Option, Some, None, length, refl, sym, ap, ◌∙◌, subst, arith, append_assoc, append-nil}
+use Rattle.std.proofs.Common.{◌≡◌, ℕ, take, replicate, ◌<◌, ◌++◌, ◌∷◌, [], List, zero, suc, get_or, set, ◌+◌, ◌/◌, ◌%◌, true, false, Option, Some, None, length, refl, sym, ap, ◌∙◌, subst, arith, append_assoc, append-nil}
 use Rattle.std.specs.Prelude.{slice_get}
 use Rattle.std.specs.Int.{bit_at}
 use Rattle.std.specs.List.{All, count_by}
@@ -12,6 +12,7 @@ use Rattle.std.proofs.lemmas.List.Elements.{All-head, All-tail, All-nil, All-wea
 use Rattle.std.proofs.lemmas.Nat.Bits.{bit_at-zero}
 use Rattle.std.proofs.lemmas.Option.{slice_get_within, get_or_from_slice_get}
 use Rattle.gpi_values.specs.declared.gpi.Gpi.{Gpi}
+use Rattle.gpt_descriptors.specs.declared.size.Size.{Size}
 use Rattle.gpt_descriptors.specs.Sizes.{granule_bytes}
 use Rattle.gpt_descriptors.specs.Places.{GeometryData}
 use Rattle.shared_words.specs.declared.act.Act.{Act}
@@ -19,7 +20,18 @@ use Rattle.shared_words.specs.Acts.{place_in, answer_of, after_act}
 use Rattle.history.specs.declared.entry.Entry.{Entry}
 use Rattle.history.specs.Entries.{caller_in}
 use Rattle.history.specs.Calls.{answered_entries}
+use Rattle.history.specs.declared.call.Task.{Task}
+use Rattle.history.specs.declared.call.Answer.{Answer}
 use Rattle.delegate_ops.specs.Agents.{AgentData, idle_answers}
+use Rattle.delegate_ops.specs.Script.{StandsAfter}
+use Rattle.delegate_ops.proofs.ScriptLemmas.{fresh_stands}
+use Rattle.core_machine.specs.Opened.{open_by, pairs_of}
+use Rattle.core_machine.specs.Seen.{Sees}
+use Rattle.core_machine.specs.Raised.{is_due}
+use Rattle.core_machine.specs.Counted.{IsCounted, known_answers}
+use Rattle.core_machine.proofs.AloneLemmas.{undisturbed_empty}
+use Rattle.core_machine.proofs.OthersLemmas.{count_none}
+use Rattle.core_machine.proofs.LockActs.{idle_counted}
 use Rattle.core_machine.specs.declared.caller.Caller.{Caller}
 use Rattle.core_machine.specs.declared.caller.Caller.TheVariants as caller
 use Rattle.core_machine.specs.Callers.{caller_next, caller_took, own_of, MayTake}
@@ -27,6 +39,7 @@ use Rattle.core_machine.specs.Locks.{holds}
 use Rattle.core_machine.specs.Stands.{IsMade, Stands}
 use Rattle.core_machine.specs.Opening.{IsFresh, AreStarting}
 use Rattle.core_machine.specs.Machine.{MachineData, StandsFor, after_act_of, told_of, after_turn_of, turn_told_of, after_turn, turn_told, after_turns, told_in}
+use Rattle.core_machine.specs.Play.{round_turns}
 use Rattle.core_machine.proofs.ListLemmas.{one}
 use Rattle.core_machine.proofs.ToldLemmas.{idle_entries}
 use Rattle.core_machine.proofs.LawLemmas.{one_act}
@@ -100,7 +113,8 @@ none_holds n (x ∷ callers) none =
     omega (arith, counted, first, none_holds n callers (All-tail (λ y. holds n y ≡ false) x callers none))
 
 fresh_made : (g : GeometryData) (x : Caller) → IsFresh g x → IsMade g x
-fresh_made g (caller.Agent a) is = (ap (λ (b : AgentData). b.geometry) is.0, is.1)
+fresh_made g (caller.Agent a) is =
+    (ap (λ (b : AgentData). b.geometry) is.0, is.1, [], subst (λ (b : AgentData). StandsAfter b []) (sym is.0) (fresh_stands g a.tasks))
 fresh_made g (caller.Cpu looks) is = tt
 
 fresh_own : (g : GeometryData) (c : ℕ) (x : Caller) → IsFresh g x → own_of c x ≡ []
@@ -109,6 +123,34 @@ fresh_own g c (caller.Agent a) is =
     ∙ append-nil (answered_entries (granule_bytes g.setup) c 0 a.tasks (idle_answers g a.tasks))
     ∙ idle_entries g (granule_bytes g.setup) c 0 a.tasks
 fresh_own g c (caller.Cpu looks) is = refl
+
+fresh_open : (g : GeometryData) (x : Caller) → IsFresh g x → open_by x ≡ []
+fresh_open g (caller.Agent a) is = ap (λ (b : AgentData). open_by (caller.Agent b)) is.0
+fresh_open g (caller.Cpu looks) is = refl
+
+none_open : (g : GeometryData) (callers : List Caller) → All (IsFresh g) callers → flat_map open_by callers ≡ []
+none_open g [] fresh_all = refl
+none_open g (x ∷ callers) fresh_all =
+    flat_map-cons open_by x callers
+    ∙ rw (fresh_open g x (All-head (IsFresh g) x callers fresh_all)) (none_open g callers (All-tail (IsFresh g) x callers fresh_all))
+
+fresh_sees : (g : GeometryData) (words : List ℕ) (x : Caller) → IsFresh g x → Sees words x
+fresh_sees g words (caller.Agent a) is = subst (λ (b : AgentData). Sees words (caller.Agent b)) (sym is.0) tt
+fresh_sees g words (caller.Cpu looks) is = tt
+
+fresh_due : (g : GeometryData) (y : Size) (region : ℕ) (x : Caller) → IsFresh g x → is_due y region x ≡ false
+fresh_due g y region (caller.Agent a) is = ap (λ (b : AgentData). is_due y region (caller.Agent b)) is.0
+fresh_due g y region (caller.Cpu looks) is = refl
+
+fresh_counted : (g : GeometryData) (c k : ℕ) (x : Caller) (u : Task) (told : Answer) → IsFresh g x → slice_get (known_answers x) k ≡ Some told → IsCounted g c k u told []
+fresh_counted g c k (caller.Agent a) u told is answered =
+    idle_counted g c k k a.tasks u told []
+    (subst (λ (answers : List Answer). slice_get answers k ≡ Some told) (ap (λ (b : AgentData). known_answers (caller.Agent b)) is.0 ∙ append-nil (idle_answers g a.tasks)) answered)
+fresh_counted g c k (caller.Cpu looks) u told is answered = absurd cc
+
+-- each caller of a fresh list is fresh
+fresh_at : (g : GeometryData) (callers : List Caller) (c : ℕ) (x : Caller) → All (IsFresh g) callers → slice_get callers c ≡ Some x → IsFresh g x
+fresh_at g callers c x fresh_all at = subst (IsFresh g) (get_or_from_slice_get callers c x x at) (fresh_all c x (slice_get_within callers c x at))
 
 pub opening_stands : (g : GeometryData) (first : List Gpi) (callers : List Caller) (words : List ℕ) → All (IsFresh g) callers → AreStarting g first words → Stands g first words callers []
 opening_stands g first callers words fresh_all starting = record {
@@ -119,13 +161,19 @@ opening_stands g first callers words fresh_all starting = record {
     made = All-weaker (IsFresh g) (IsMade g) (fresh_made g) callers fresh_all;
   };
   tables = starting.tables;
-  closed = refl;
+  opened = λ granule. sym (ap (pairs_of granule) (none_open g callers fresh_all));
   locks = λ n below.
       ap (λ (word : ℕ). bit_at word (n % 64)) (starting.free (n / 64) (omega (arith, below))) ∙ bit_at-zero (n % 64)
       ∙ sym (none_holds n callers (All-weaker (IsFresh g) (λ x. holds n x ≡ false) (fresh_holds g n) callers fresh_all));
+  seen = λ c x at. fresh_sees g words x (fresh_at g callers c x fresh_all at);
+  generations = λ y region within.
+      omega (arith, starting.generations y region within, count_none (is_due y region) callers (λ d x at. fresh_due g y region x (fresh_at g callers d x fresh_all at)));
+  undisturbed = undisturbed_empty g.setup;
+  alone = λ c n x at has. absurd (let none = fresh_holds g n x (fresh_at g callers c x fresh_all at) in let both : false ≡ true = sym none ∙ has in cc);
+  counted = λ c k x u told at asked answered. fresh_counted g c k x u told (fresh_at g callers c x fresh_all at) answered;
   told = record {
     allowed = tt;
-    own = λ c x at. sym (fresh_own g c x (subst (IsFresh g) (get_or_from_slice_get callers c x x at) (fresh_all c x (slice_get_within callers c x at))));
+    own = λ c x at. sym (fresh_own g c x (fresh_at g callers c x fresh_all at));
     known = All-nil (λ e. caller_in e < length callers);
   };
 }
@@ -180,3 +228,12 @@ pub slots_more : {X A : Type 0} (f : X → List A) (xs : List X) (i : ℕ) (d : 
 slots_more f xs i d within =
     ap (flat_map f) (take_more xs i d within) ∙ flat_map-append f (take i xs) (get_or xs i d ∷ [])
     ∙ ap (λ rest. flat_map f (take i xs) ++ rest) (append-nil (f (get_or xs i d)))
+
+-- without callers a round has no turns
+no_rounds_from : (count a times : ℕ) → flat_map (λ (k : ℕ). round_turns 0 count) (range_with_len a times) ≡ []
+no_rounds_from count a zero = refl
+no_rounds_from count a (suc times) = flat_map-cons (λ (k : ℕ). round_turns 0 count) a (range_with_len (a + 1) times) ∙ no_rounds_from count (a + 1) times
+
+pub no_rounds : (m : MachineData) (count times : ℕ) → length m.callers ≡ 0 → m ≡ after_turns m (flat_map (λ (k : ℕ). round_turns (length m.callers) count) (range_with_len 0 times))
+no_rounds m count times none =
+    sym (ap (λ (n : ℕ). after_turns m (flat_map (λ (k : ℕ). round_turns n count) (range_with_len 0 times))) none ∙ ap (after_turns m) (no_rounds_from count 0 times))

@@ -1,54 +1,109 @@
 -- The words before the first act: built tables among them mean the region map.
-use Rattle.std.proofs.Common.{◌≡◌, ℕ, zero, suc, [], ◌∷◌, mul_comm, ◌+◌, ◌*◌, ◌/◌, ◌%◌, ◌<◌, List, map, length, false, Option, Some, None, refl, sym, ap, ◌∙◌, subst, arith}
+use Rattle.std.proofs.Common.{◌≡◌, ℕ, [], ◌∷◌, mul_comm, ◌+◌, ◌*◌, ◌/◌, ◌%◌, ◌^◌, ◌<◌, List, map, length, Bool, true, false, cond, Option, Some, None, refl, sym, ap, ◌∙◌, subst, arith}
 use Rattle.std.specs.Prelude.{slice_get, slice_index}
-use Rattle.std.specs.List.{range_with_len}
-use Rattle.std.proofs.Math.Nat.{div-div-eq-div-mul, mul-div_cancel}
-use Rattle.std.proofs.lemmas.List.FromFn.{length-map-range_with_len}
-use Rattle.std.proofs.lemmas.Option.{get_or_from_slice_get}
-use Rattle.gpt_descriptors.specs.Sizes.{SetupData, granule_bytes, word_bytes, table_words, region_bytes, space_granules}
+use Rattle.std.specs.List.{All, flat_map, range_with_len}
+use Rattle.std.proofs.Math.Nat.{div-div-eq-div-mul}
+use Rattle.std.proofs.lemmas.Bool.{and_parts}
+use Rattle.std.proofs.lemmas.List.Elements.{All-nil, All-append, All-map}
+use Rattle.std.proofs.lemmas.List.Concat.{flat_map-cons}
+use Rattle.std.proofs.lemmas.List.FromFn.{length-map-range_with_len, get_or-map-range_with_len}
+use Rattle.std.proofs.lemmas.Option.{get_or_from_slice_get, slice_get-get_or}
+use Rattle.gpi_values.specs.declared.gpi.Gpi.{Gpi}
+use Rattle.gpi_values.proofs.ValueLemmas.{value_low}
+use Rattle.gpt_descriptors.specs.declared.size.Size.{Size}
+use Rattle.gpt_descriptors.specs.declared.size.Size.TheVariants as size
+use Rattle.gpt_descriptors.specs.declared.entry.L1Entry.TheVariants as l1
+use Rattle.gpt_descriptors.specs.Sizes.{SetupData, granule_bytes, word_bytes, words_of, table_words, region_bytes, space_granules, is_permitted}
 use Rattle.gpt_descriptors.specs.Entries.{l0_entry, l1_entry, word_gpi}
-use Rattle.gpt_descriptors.specs.Canonical.{canonical_word}
+use Rattle.gpt_descriptors.specs.Canonical.{is_one_block, canonical_with, canonical_word}
 use Rattle.gpt_descriptors.specs.Level0.{l1_index}
-use Rattle.gpt_descriptors.specs.Places.{GeometryData, IsGeometry, Lock, Level1, place_of, l0_words, l1_words, l1_index_of, block_gpi_in}
-use Rattle.gpt_descriptors.proofs.SizeLemmas.{granule_low, word_is}
+use Rattle.gpt_descriptors.specs.Places.{GeometryData, IsGeometry, Lock, Generation, Level1, place_of, l0_words, l1_words, l1_index_of, block_gpi_in}
+use Rattle.gpt_descriptors.proofs.SizeLemmas.{word_is}
 use Rattle.gpt_descriptors.proofs.PlaceLemmas.{index_within, region_of_word}
-use Rattle.gpt_descriptors.proofs.MeaningLemmas.{canonical_meaning}
+use Rattle.gpt_descriptors.proofs.MeaningLemmas.{contiguous_again, packed_entry, canonical_meaning}
+use Rattle.gpt_descriptors.proofs.CanonicalLemmas.{canonical_choice}
+use Rattle.gpt_descriptors.proofs.PackedLemmas.{packed_below}
 use Rattle.region_plan.specs.declared.region.Region.{Region}
-use Rattle.region_plan.specs.Regions.{region_map, region_l0}
+use Rattle.region_plan.specs.Regions.{region_map, region_l0, tabled_below}
 use Rattle.region_plan.specs.Refusals.{refusal}
-use Rattle.table_build.specs.Built.{region_l1, is_bad_base}
+use Rattle.table_build.specs.Built.{table_of, region_l1, is_bad_base}
 use Rattle.table_build.proofs.MeaningLemmas.{built_word, built_block, built_fills}
 use Rattle.shared_words.specs.Start.{start_words}
 use Rattle.shared_words.proofs.StartLemmas.{start_count, start_named}
 use Rattle.delegate_ops.specs.Deciding.{granule_place}
 use Rattle.core_machine.specs.Opening.{AreStarting}
 use Rattle.core_machine.specs.Tables.{table_gpi, table_word, MeansMap}
+use Rattle.core_machine.proofs.TableLemmas.{granule_back}
 
 -- ---- lists
 
 get_mapped : {A : Type 0} (f : ℕ → A) (a n k : ℕ) → k < n → slice_get (map f (range_with_len a n)) k ≡ Some (f (a + k))
-get_mapped f a zero k within = absurd (omega arith)
-get_mapped f a (suc n) zero within = ap (λ (j : ℕ). Some (f j)) (let same : a ≡ a + 0 = omega arith in same)
-get_mapped f a (suc n) (suc k) within =
-    get_mapped f (a + 1) n k (omega (arith, within)) ∙ ap (λ (j : ℕ). Some (f j)) (let same : a + 1 + k ≡ a + suc k = omega arith in same)
-
-get_within : (xs : List ℕ) (i : ℕ) → i < length xs → slice_get xs i ≡ Some (slice_index xs i)
-get_within [] i within = absurd (omega arith)
-get_within (x ∷ xs) zero within = refl
-get_within (x ∷ xs) (suc i) within = get_within xs i (omega (arith, within))
+get_mapped f a n k within =
+    slice_get-get_or (map f (range_with_len a n)) k (f a) (subst (λ (m : ℕ). k < m) (sym (length-map-range_with_len f a n)) within)
+    ∙ ap (λ (x : _). Some x) (get_or-map-range_with_len f a n k (a + k) (f a) within refl)
 
 index_of : (xs : List ℕ) (i x : ℕ) → slice_get xs i ≡ Some x → slice_index xs i ≡ x
 index_of xs i x at = get_or_from_slice_get xs i x 0 at
 
 -- ---- numbers of granules
 
-granule_back : (s : SetupData) (granule : ℕ) → granule * granule_bytes s / granule_bytes s ≡ granule
-granule_back s granule = mul-div_cancel granule (omega (arith, granule_low s))
-
 word_back : (s : SetupData) (granule : ℕ) → granule * granule_bytes s / word_bytes s ≡ granule / 16
 word_back s granule =
     ap (λ (n : ℕ). granule * granule_bytes s / n) (word_is s ∙ mul_comm 16 (granule_bytes s))
     ∙ sym (div-div-eq-div-mul (granule * granule_bytes s) (granule_bytes s) 16) ∙ ap (λ (n : ℕ). n / 16) (granule_back s granule)
+
+-- ---- the built words
+
+-- the largest size that was chosen is permitted
+abbrev Permits : SetupData → Option Size → Type 0
+Permits s None = Unit {0}
+Permits s (Some z) = is_permitted s.max z ≡ true
+
+block_permits : (s : SetupData) (m : ℕ → Gpi) (z : Size) (b : ℕ) → is_one_block s m z b ≡ true → is_permitted s.max z ≡ true
+unfolding is_one_block
+block_permits s m z b one = (and_parts _ _ one).0
+
+choice_permits : (s : SetupData) (a b c : Bool) → (a ≡ true → is_permitted s.max size.FiveTwelve ≡ true) → (b ≡ true → is_permitted s.max size.ThirtyTwo ≡ true)
+    → (c ≡ true → is_permitted s.max size.Two ≡ true)
+    → Permits s (cond a (Some size.FiveTwelve) (cond b (Some size.ThirtyTwo) (cond c (Some size.Two) None)))
+choice_permits s true b c largest larger two = largest refl
+choice_permits s false true c largest larger two = larger refl
+choice_permits s false false true largest larger two = two refl
+choice_permits s false false false largest larger two = tt
+
+with_permits : (s : SetupData) (m : ℕ → Gpi) (w : ℕ) (o : Option Size) (z : Size) (gpi : Gpi) → Permits s o → l1_entry (canonical_with m w o) ≡ Some (l1.Contig z gpi) → is_permitted s.max z ≡ true
+with_permits s m w None z gpi permits read = absurd (let both = sym (packed_entry m (16 * w)) ∙ read in cc)
+with_permits s m w (Some y) z gpi permits read =
+    let both = sym (contiguous_again y (m (16 * w))) ∙ read in
+    subst (λ (x : Size). is_permitted s.max x ≡ true) (let same : y ≡ z = cc in same) permits
+
+with_below : (m : ℕ → Gpi) (w : ℕ) (o : Option Size) → canonical_with m w o < 2 ^ 64
+with_below m w None = packed_below m (16 * w) 16
+with_below m w (Some size.Two) = omega (arith, value_low (m (16 * w)))
+with_below m w (Some size.ThirtyTwo) = omega (arith, value_low (m (16 * w)))
+with_below m w (Some size.FiveTwelve) = omega (arith, value_low (m (16 * w)))
+
+-- a word has 64 bits, and as a contiguous one is of a permitted size
+record IsFit (s : SetupData) (word : ℕ) : Type 0 where
+  below : word < 2 ^ 64
+  permits : (z : Size) (gpi : Gpi) → l1_entry word ≡ Some (l1.Contig z gpi) → is_permitted s.max z ≡ true
+
+canonical_fit : (s : SetupData) (m : ℕ → Gpi) (w : ℕ) → IsFit s (canonical_word s m None w)
+canonical_fit s m w =
+    let permits = choice_permits s (is_one_block s m size.FiveTwelve (w / words_of s size.FiveTwelve)) (is_one_block s m size.ThirtyTwo (w / words_of s size.ThirtyTwo))
+    (is_one_block s m size.Two (w / words_of s size.Two)) (block_permits s m size.FiveTwelve _) (block_permits s m size.ThirtyTwo _) (block_permits s m size.Two _) in
+    rw (canonical_choice s m w) (record { below = with_below m w _; permits = λ z gpi read. with_permits s m w _ z gpi permits read })
+
+tables_fit : (s : SetupData) (regions : List Region) (tabled : List ℕ) → All (IsFit s) (flat_map (table_of s regions) tabled)
+tables_fit s regions [] = All-nil (IsFit s)
+tables_fit s regions (q ∷ qs) =
+    rw flat_map-cons
+    (All-append (IsFit s) (table_of s regions q) (flat_map (table_of s regions) qs)
+    (All-map (IsFit s) (canonical_word s (region_map s regions) None) (range_with_len (q * table_words s) (table_words s)) (λ k d within. canonical_fit s (region_map s regions) _))
+    (tables_fit s regions qs))
+
+built_fit : (s : SetupData) (regions : List Region) (i : ℕ) → i < length (region_l1 s regions) → IsFit s (slice_index (region_l1 s regions) i)
+built_fit s regions i within = tables_fit s regions (tabled_below regions s.gigabytes) i 0 within
 
 -- ---- the starting words
 
@@ -99,8 +154,14 @@ built_means g regions geometry level0 accepted good size = record {
       let here = level1_word g words i size i_in in
       let there = level1_word g words j size j_in in
       there ∙ index_of words j (slice_index words i)
-      (built_fills g.setup regions i j (slice_index words i) z gpi (get_within words i (subst (λ (n : ℕ). i < n) (sym size) i_in)) (ap l1_entry (sym here) ∙ entry) block)
+      (built_fills g.setup regions i j (slice_index words i) z gpi (slice_get-get_or words i 0 (subst (λ (n : ℕ). i < n) (sym size) i_in)) (ap l1_entry (sym here) ∙ entry) block)
       ∙ sym here;
+  permitted = λ i z gpi i_in entry.
+      let words = region_l1 g.setup regions in
+      (built_fit g.setup regions i (subst (λ (n : ℕ). i < n) (sym size) i_in)).permits z gpi (ap l1_entry (sym (level1_word g words i size i_in)) ∙ entry);
+  bounded = λ i i_in.
+      let words = region_l1 g.setup regions in
+      subst (λ (n : ℕ). n < 2 ^ 64) (sym (level1_word g words i size i_in)) (built_fit g.setup regions i (subst (λ (n : ℕ). i < n) (sym size) i_in)).below;
 }
 
 -- all that stands before the first act
@@ -113,4 +174,6 @@ built_starts g regions geometry level0 accepted good size = record {
   free = λ n low. index_of (start_words g (region_l1 g.setup regions)) (place_of g (Lock n)) 0 (start_named g (region_l1 g.setup regions) (Lock n) size low);
   granules = length-map-range_with_len (region_map g.setup regions) 0 (space_granules g.setup);
   tables = built_means g regions geometry level0 accepted good size;
+  generations = λ y region within.
+      index_of (start_words g (region_l1 g.setup regions)) (place_of g (Generation y region)) g.setup.first (start_named g (region_l1 g.setup regions) (Generation y region) size within);
 }

@@ -20,8 +20,8 @@ use Rattle.scenario_text.specs.declared.scenario.Slot.TheVariants as slot
 use Rattle.scenario_text.specs.Spelling.{IsSlot, WellFormed}
 use Rattle.shared_words.specs.declared.act.Act.{Act}
 use Rattle.history.specs.declared.call.Task.{Task}
-use Rattle.delegate_ops.specs.Agents.{IsAgent, is_look, fresh}
-use Rattle.delegate_ops.proofs.AgentLemmas.{idle_few, idle_then_acts}
+use Rattle.delegate_ops.specs.Agents.{IsAgent, is_look, task_of, fresh}
+use Rattle.delegate_ops.proofs.AgentLemmas.{idle_few, idle_then_acts, locking_fits}
 use Rattle.core_machine.specs.declared.caller.Caller.{Caller}
 use Rattle.core_machine.specs.Callers.{caller_next}
 use Rattle.core_machine.specs.Opening.{IsFresh, AreStarting}
@@ -39,6 +39,7 @@ fresh_is_agent g tasks geometry no_looks = record {
   no_looks = no_looks;
   answered = idle_few g tasks;
   acts = idle_then_acts g tasks;
+  stage = locking_fits (task_of (fresh g tasks));
 }
 
 caller_fresh : (g : GeometryData) (s : Script) → IsGeometry g → IsFresh g (caller_of g s)

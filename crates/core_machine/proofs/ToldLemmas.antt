@@ -1,7 +1,7 @@
 -- The history: what the entries of an act add to it.
-use Rattle.std.proofs.Common.{◌≡◌, ◌≢◌, ℕ, suc, ◌+◌, ◌/◌, ◌<◌, ◌⊎◌, ◌++◌, ◌∷◌, [], List, false, eqb, Option, Some, None, length, set, refl, sym, ap, ◌∙◌, subst, arith, inl, inr, append_assoc, append-nil, drop}
+use Rattle.std.proofs.Common.{◌≡◌, ◌≢◌, ℕ, suc, ◌+◌, ◌<◌, ◌⊎◌, ◌++◌, ◌∷◌, [], List, eqb, Option, Some, None, length, set, refl, sym, ap, ◌∙◌, subst, arith, inl, inr, append_assoc, append-nil, drop}
 use Rattle.std.specs.Prelude.{slice_get}
-use Rattle.std.specs.List.{All, list_any}
+use Rattle.std.specs.List.{All}
 use Rattle.std.proofs.lemmas.Option.{slice_get_within}
 use Rattle.std.proofs.lemmas.Bool.{cases_Bool, eq-eqb, ne_eqb}
 use Rattle.std.proofs.lemmas.List.{length-set}
@@ -13,48 +13,20 @@ use Rattle.history.specs.declared.call.Task.TheVariants as task
 use Rattle.history.specs.declared.call.Answer.{Answer}
 use Rattle.history.specs.declared.call.Answer.TheVariants as answer
 use Rattle.history.specs.declared.entry.Entry.{Entry}
-use Rattle.history.specs.declared.entry.Entry.TheVariants as entry
-use Rattle.history.specs.Entries.{caller_in}
+use Rattle.history.specs.Entries.{caller_in, call_in}
 use Rattle.history.specs.States.{State, start, after_entry, state_after}
-use Rattle.history.specs.Legality.{needed}
 use Rattle.history.specs.Calls.{entries_by, call_entries, answered_entries}
-use Rattle.delegate_ops.specs.Deciding.{is_unusable, address_of, idle_answer, is_needed, refusal_of}
+use Rattle.delegate_ops.specs.Deciding.{is_unusable, idle_answer}
 use Rattle.delegate_ops.specs.Agents.{answered_first, idle_answers}
 use Rattle.core_machine.specs.declared.caller.Caller.{Caller}
-use Rattle.core_machine.specs.Callers.{known_entries, own_of}
+use Rattle.core_machine.specs.Callers.{own_of}
 use Rattle.core_machine.specs.Told.{AreAllowed, Tells}
 use Rattle.core_machine.proofs.ListLemmas.{get_set}
 
--- ---- what an act may add: nothing, or one refusal
+-- ---- what an act may add: nothing, or one entry of the call under way
 
-abbrev pub IsAdded : ℕ → ℕ → ℕ → Option Gpi → List Entry → Type 0
-IsAdded c k granule found made = (made ≡ []) ⊎ ((gpi : Gpi) × (found ≡ Some gpi) × (made ≡ entry.Refused c k granule gpi ∷ []))
-
-refusal_added : (bytes c k : ℕ) (t : Task) (found : Gpi) → is_needed (needed t) found ≡ false → IsAdded c k (address_of t / bytes) (Some found) (known_entries bytes c k t (refusal_of t (Some found)))
-refusal_added bytes c k (task.Delegate pa source) found other = inr (found, refl, rw other refl)
-refusal_added bytes c k (task.Undelegate pa source) found other = inr (found, refl, rw other refl)
-refusal_added bytes c k task.Unknown found other = inl refl
-refusal_added bytes c k (task.Look pa space) found other = inl refl
-
-pub looked_added : (bytes c k : ℕ) (t : Task) (found : Option Gpi) → IsAdded c k (address_of t / bytes) found (known_entries bytes c k t (refusal_of t found))
-looked_added bytes c k t None = inl refl
-looked_added bytes c k t (Some found) =
-    elim (cases_Bool (is_needed (needed t) found)) [
-      | inl same ↦ inl (rw same refl)
-      | inr other ↦ refusal_added bytes c k t found other
-    ]
-
--- the state is as before
-pub added_state : (s : State) (c k granule : ℕ) (found : Option Gpi) (made : List Entry) → IsAdded c k granule found made → state_after s made ≡ s
-added_state s c k granule found made added = elim added [ inl none ↦ rw none refl | inr one ↦ rw one.2 refl ]
-
--- it is allowed where the map gives what was found and nothing is open
-pub added_allowed : (s : State) (c k granule : ℕ) (found : Option Gpi) (made : List Entry) → s.opened ≡ [] → found ≡ slice_get s.map granule → IsAdded c k granule found made → AreAllowed s made
-added_allowed s c k granule found made closed gives added =
-    elim added [
-      | inl none ↦ subst (AreAllowed s) (sym none) tt
-      | inr one ↦ subst (AreAllowed s) (sym one.2) ((sym gives ∙ one.1, ap (λ (pairs : List (ℕ × Gpi)). list_any (λ pair. eqb pair.0 granule) pairs) closed), tt)
-    ]
+abbrev pub IsAdded : ℕ → ℕ → List Entry → Type 0
+IsAdded c k made = (made ≡ []) ⊎ ((e : Entry) × (made ≡ e ∷ []) × (caller_in e ≡ c) × (call_in e ≡ k))
 
 pub allowed_joined : (s : State) (xs ys : List Entry) → AreAllowed s xs → AreAllowed (state_after s xs) ys → AreAllowed s (xs ++ ys)
 allowed_joined s [] ys front back = back
@@ -62,57 +34,58 @@ allowed_joined s (x ∷ xs) ys front back = (front.0, allowed_joined (after_entr
 
 -- ---- whose it is
 
-added_own : (c k granule : ℕ) (found : Option Gpi) (made : List Entry) → IsAdded c k granule found made → entries_by c made ≡ made
-added_own c k granule found made added =
-    elim added [ inl none ↦ rw none refl | inr one ↦ rw (one.2, eq-eqb c c refl) refl ]
+added_own : (c k : ℕ) (made : List Entry) → IsAdded c k made → entries_by c made ≡ made
+added_own c k made added =
+    elim added [ inl none ↦ rw none refl | inr one ↦ rw (one.1, eq-eqb (caller_in one.0) c one.2) refl ]
 
-added_other : (c d k granule : ℕ) (found : Option Gpi) (made : List Entry) → d ≢ c → IsAdded c k granule found made → entries_by d made ≡ []
-added_other c d k granule found made apart added =
-    elim added [ inl none ↦ rw none refl | inr one ↦ rw (one.2, ne_eqb c d (λ same. apart (sym same))) refl ]
+added_other : (c d k : ℕ) (made : List Entry) → d ≢ c → IsAdded c k made → entries_by d made ≡ []
+added_other c d k made apart added =
+    elim added [ inl none ↦ rw none refl | inr one ↦ rw (one.1, ne_eqb (caller_in one.0) d (λ same. apart (sym same ∙ one.2))) refl ]
 
-added_known : (c k granule n : ℕ) (found : Option Gpi) (made : List Entry) → c < n → IsAdded c k granule found made → All (λ e. caller_in e < n) made
-added_known c k granule n found made low added =
+added_known : (c k n : ℕ) (made : List Entry) → c < n → IsAdded c k made → All (λ e. caller_in e < n) made
+added_known c k n made low added =
     elim added [
       | inl none ↦ subst (All (λ e. caller_in e < n)) (sym none) (All-nil (λ e. caller_in e < n))
-      | inr one ↦ subst (All (λ e. caller_in e < n)) (sym one.2) (All-cons (λ e. caller_in e < n) (entry.Refused c k granule one.0) [] low (All-nil (λ e. caller_in e < n)))
+      | inr one ↦ subst (All (λ e. caller_in e < n)) (sym one.1) (All-cons (λ e. caller_in e < n) one.0 [] (subst (λ (m : ℕ). m < n) (sym one.2) low) (All-nil (λ e. caller_in e < n)))
     ]
 
 -- ---- one caller steps
 
-pub tells_keep : (first : List Gpi) (callers : List Caller) (h : List Entry) (c k granule : ℕ) (found : Option Gpi) (a x : Caller) (made : List Entry)
-    → slice_get callers c ≡ Some a → Tells first callers h → IsAdded c k granule found made → own_of c x ≡ own_of c a ++ made → AreAllowed (state_after (start first) h) made
+pub tells_keep : (first : List Gpi) (callers : List Caller) (h : List Entry) (c k : ℕ) (a x : Caller) (made : List Entry)
+    → slice_get callers c ≡ Some a → Tells first callers h → IsAdded c k made → own_of c x ≡ own_of c a ++ made → AreAllowed (state_after (start first) h) made
     → Tells first (set callers c x) (h ++ made)
-tells_keep first callers h c k granule found a x made at tells added own allowed = record {
+tells_keep first callers h c k a x made at tells added own allowed = record {
   allowed = allowed_joined (start first) h made tells.allowed allowed;
   own = λ d y there.
       elim (get_set callers c d x y there) [
         | inl here ↦
             filter-append (λ e. eqb (caller_in e) d) h made
             ∙ subst (λ (n : ℕ). entries_by n h ++ entries_by n made ≡ own_of n y) (sym here.0)
-            (rw (added_own c k granule found made added, tells.own c a at) (sym own ∙ ap (own_of c) here.1))
+            (rw (added_own c k made added, tells.own c a at) (sym own ∙ ap (own_of c) here.1))
         | inr away ↦
             filter-append (λ e. eqb (caller_in e) d) h made
-            ∙ (rw (added_other c d k granule found made away.0 added) (append-nil (entries_by d h)) ∙ tells.own d y away.1)
+            ∙ (rw (added_other c d k made away.0 added) (append-nil (entries_by d h)) ∙ tells.own d y away.1)
       ];
   known = subst (λ (n : ℕ). All (λ e. caller_in e < n) (h ++ made)) (sym (length-set callers c x))
-      (All-append (λ e. caller_in e < length callers) h made tells.known (added_known c k granule (length callers) found made (slice_get_within callers c a at) added));
+      (All-append (λ e. caller_in e < length callers) h made tells.known (added_known c k (length callers) made (slice_get_within callers c a at) added));
 }
 
 -- ---- the entries of answered calls
 
-quiet : (g : GeometryData) (bytes c k : ℕ) (t : Task) (a : Answer) → idle_answer g t ≡ Some a → call_entries bytes c k t a ≡ []
-quiet g bytes c k (task.Delegate pa source) a idle =
+-- a task without acts has no entries
+pub idle_quiet : (g : GeometryData) (bytes c k : ℕ) (t : Task) (a : Answer) → idle_answer g t ≡ Some a → call_entries bytes c k t a ≡ []
+idle_quiet g bytes c k (task.Delegate pa source) a idle =
     elim (cases_Bool (is_unusable g pa)) [
       | inl bad ↦ subst (λ (b : Answer). call_entries bytes c k (task.Delegate pa source) b ≡ []) (let both = rw bad at idle in let same : answer.Inval ≡ a = cc in same) refl
       | inr good ↦ absurd (let both = rw good at idle in cc)
     ]
-quiet g bytes c k (task.Undelegate pa source) a idle =
+idle_quiet g bytes c k (task.Undelegate pa source) a idle =
     elim (cases_Bool (is_unusable g pa)) [
       | inl bad ↦ subst (λ (b : Answer). call_entries bytes c k (task.Undelegate pa source) b ≡ []) (let both = rw bad at idle in let same : answer.Inval ≡ a = cc in same) refl
       | inr good ↦ absurd (let both = rw good at idle in cc)
     ]
-quiet g bytes c k task.Unknown a idle = refl
-quiet g bytes c k (task.Look pa space) a idle =
+idle_quiet g bytes c k task.Unknown a idle = refl
+idle_quiet g bytes c k (task.Look pa space) a idle =
     elim (cases_Bool (is_unusable g pa)) [
       | inl bad ↦ subst (λ (b : Answer). call_entries bytes c k (task.Look pa space) b ≡ []) (let both = rw bad at idle in let same : answer.Inval ≡ a = cc in same) refl
       | inr good ↦ absurd (let both = rw good at idle in cc)
@@ -121,7 +94,7 @@ quiet g bytes c k (task.Look pa space) a idle =
 idle_first : (g : GeometryData) (bytes c k : ℕ) (t : Task) (tasks : List Task) (o : Option Answer) → idle_answer g t ≡ o → answered_entries bytes c (k + 1) tasks (idle_answers g tasks) ≡ []
     → answered_entries bytes c k (t ∷ tasks) (answered_first o (idle_answers g tasks)) ≡ []
 idle_first g bytes c k t tasks None idle rest = refl
-idle_first g bytes c k t tasks (Some a) idle rest = rw (quiet g bytes c k t a idle) rest
+idle_first g bytes c k t tasks (Some a) idle rest = rw (idle_quiet g bytes c k t a idle) rest
 
 pub idle_entries : (g : GeometryData) (bytes c k : ℕ) (tasks : List Task) → answered_entries bytes c k tasks (idle_answers g tasks) ≡ []
 idle_entries g bytes c k [] = refl

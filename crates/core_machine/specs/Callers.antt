@@ -1,15 +1,21 @@
 -- Callers as plain data: their acts, their answers, and the entries that their acts make.
-use Rattle.std.specs.Prelude.{ℕ, ◌-◌, Bool, false, List, [], ◌++◌, length, Option, Some, None}
+use Rattle.std.specs.Prelude.{ℕ, ◌-◌, ◌/◌, Bool, false, List, [], ◌∷◌, ◌++◌, length, Option, Some, None}
+use Rattle.gpt_descriptors.specs.declared.size.Size.TheVariants as size
 use Rattle.gpt_descriptors.specs.Sizes.{granule_bytes}
 use Rattle.gpt_descriptors.specs.Places.{GeometryData}
 use Rattle.shared_words.specs.declared.act.Act.{Act}
 use Rattle.history.specs.declared.call.Task.{Task}
+use Rattle.history.specs.declared.call.Task.TheVariants as task
 use Rattle.history.specs.declared.call.Answer.{Answer}
 use Rattle.history.specs.declared.entry.Entry.{Entry}
+use Rattle.history.specs.declared.entry.Entry.TheVariants as entry
 use Rattle.history.specs.Calls.{call_entries, answered_entries}
+use Rattle.delegate_ops.specs.declared.stage.Change.{Change}
+use Rattle.delegate_ops.specs.declared.stage.Change.TheVariants as change
 use Rattle.delegate_ops.specs.declared.stage.Stage.{Stage}
 use Rattle.delegate_ops.specs.declared.stage.Stage.TheVariants as stage
-use Rattle.delegate_ops.specs.Deciding.{looked_answer}
+use Rattle.delegate_ops.specs.Deciding.{address_of, looked_answer, worn_answer}
+use Rattle.delegate_ops.specs.Changing.{from_of, to_of, with_generation}
 use Rattle.delegate_ops.specs.Agents.{task_of, next_of, took_of, IsReadable}
 use Rattle.core_machine.specs.declared.caller.Caller.{Caller}
 use Rattle.core_machine.specs.declared.caller.Caller.TheVariants as caller
@@ -41,16 +47,32 @@ abbrev pub caller_left : Caller → ℕ
 caller_left (caller.Agent a) = length a.tasks - length a.answers
 caller_left (caller.Cpu looks) = looks
 
+-- the number of the call under way
+abbrev pub call_of : Caller → ℕ
+call_of (caller.Agent a) = length a.answers
+call_of (caller.Cpu looks) = 0
+
 -- ---- entries
 
+-- the granule of a task
+abbrev pub granule_of_task : GeometryData → Task → ℕ
+granule_of_task g t = address_of t / granule_bytes g.setup
+
 -- the entries of a call whose answer is known, if it is
-abbrev pub known_entries : ℕ → ℕ → ℕ → Task → Option Answer → List Entry
-known_entries bytes c k t None = []
-known_entries bytes c k t (Some answer) = call_entries bytes c k t answer
+abbrev pub known_entries : GeometryData → ℕ → ℕ → Task → Option Answer → List Entry
+known_entries g c k t None = []
+known_entries g c k t (Some answer) = call_entries (granule_bytes g.setup) c k t answer
+
+-- the entry of a change
+abbrev pub change_entry : GeometryData → ℕ → ℕ → Task → Change → Entry
+change_entry g c k t ch = entry.Changed c k (granule_of_task g t) (from_of t ch) (to_of t ch)
 
 -- the entries that the next act of a task makes at a stage, where it answers this word
 abbrev pub made_at : GeometryData → ℕ → ℕ → Stage → Option Task → ℕ → List Entry
-made_at g c k stage.Looking (Some t) old = known_entries (granule_bytes g.setup) c k t (looked_answer g t old)
+made_at g c k stage.Looking (Some t) old = known_entries g c k t (looked_answer g t old)
+made_at g c k (stage.Reading size.FiveTwelve kept) (Some t) old = known_entries g c k t (worn_answer (with_generation size.FiveTwelve old kept.generations))
+made_at g c k (stage.Changing ch kept) (Some t) old = change_entry g c k t ch ∷ []
+made_at g c k (stage.Raising ch size.FiveTwelve kept) (Some t) old = entry.Settled c k (granule_of_task g t) ∷ []
 made_at g c k s t old = []
 
 -- the entries that the next act of caller number c makes
@@ -58,9 +80,17 @@ abbrev pub made_by : ℕ → Caller → ℕ → List Entry
 made_by c (caller.Agent a) old = made_at a.geometry c (length a.answers) a.stage (task_of a) old
 made_by c (caller.Cpu looks) old = []
 
+-- the entries of a call before a change: only the last change of an undelegate has some
+abbrev pub entries_before : GeometryData → ℕ → ℕ → Task → Change → List Entry
+entries_before g c k (task.Undelegate pa source) change.Last =
+    change_entry g c k (task.Undelegate pa source) change.First ∷ entry.Settled c k (granule_of_task g (task.Undelegate pa source)) ∷ []
+entries_before g c k t ch = []
+
 -- the entries that the call under way has made at a stage
 abbrev pub front_at : GeometryData → ℕ → ℕ → Stage → Option Task → List Entry
-front_at g c k (stage.Releasing answer) (Some t) = known_entries (granule_bytes g.setup) c k t answer
+front_at g c k (stage.Changing ch kept) (Some t) = entries_before g c k t ch
+front_at g c k (stage.Raising ch z kept) (Some t) = entries_before g c k t ch ++ change_entry g c k t ch ∷ []
+front_at g c k (stage.Releasing answer) (Some t) = known_entries g c k t answer
 front_at g c k s t = []
 
 -- all entries that caller number c has made

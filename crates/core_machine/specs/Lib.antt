@@ -2,8 +2,14 @@ pub mod Callers
 pub mod Told
 pub mod Tables
 pub mod Locks
+pub mod Opened
+pub mod Seen
+pub mod Raised
+pub mod Alone
+pub mod Counted
 pub mod Stands
 pub mod Law
 pub mod Machine
 pub mod Opening
 pub mod Play
+pub mod Run

@@ -13,9 +13,8 @@ use Rattle.core_machine.specs.declared.caller.Caller.TheVariants as caller
 -- a call stands between its lock and its unlock
 abbrev pub is_inside : Stage → Bool
 is_inside stage.Locking = false
-is_inside stage.Looking = true
-is_inside (stage.Releasing answer) = true
 is_inside stage.Stopped = false
+is_inside s = true
 
 abbrev pub is_lock_of : GeometryData → ℕ → Option Task → Bool
 is_lock_of g n None = false

@@ -1,11 +1,13 @@
 -- Words and callers before the first act.
-use Rattle.std.specs.Prelude.{◌≡◌, ℕ, ◌<◌, List, length, slice_index}
+use Rattle.std.specs.Prelude.{◌≡◌, ℕ, ◌*◌, ◌<◌, List, length, slice_index}
 use Rattle.gpi_values.specs.declared.gpi.Gpi.{Gpi}
+use Rattle.gpt_descriptors.specs.declared.size.Size.{Size}
 use Rattle.gpt_descriptors.specs.Sizes.{space_granules}
-use Rattle.gpt_descriptors.specs.Places.{GeometryData, IsGeometry, Lock, place_of, word_count}
+use Rattle.gpt_descriptors.specs.Places.{GeometryData, IsGeometry, Lock, place_of, word_count, blocks_in_region}
 use Rattle.delegate_ops.specs.Agents.{IsAgent, fresh}
 use Rattle.core_machine.specs.declared.caller.Caller.{Caller}
 use Rattle.core_machine.specs.declared.caller.Caller.TheVariants as caller
+use Rattle.core_machine.specs.Raised.{generation_word}
 use Rattle.core_machine.specs.Tables.{MeansMap}
 
 -- the caller was made with this geometry and has made no act
@@ -13,10 +15,11 @@ abbrev pub IsFresh : GeometryData → Caller → Type 0
 IsFresh g (caller.Agent a) = (a ≡ fresh g a.tasks) × IsAgent a
 IsFresh g (caller.Cpu looks) = Unit {0}
 
--- all words are there, no lock is held, and the tables mean a map
+-- all words are there, no lock is held, the tables mean a map, and each generation is the first one
 pub record AreStarting (g : GeometryData) (first : List Gpi) (words : List ℕ) : Type 0 where
   pub geometry : IsGeometry g
   pub size : length words ≡ word_count g
   pub free : (n : ℕ) → n < 2 → slice_index words (place_of g (Lock n)) ≡ 0
   pub granules : length first ≡ space_granules g.setup
   pub tables : MeansMap g words first
+  pub generations : (y : Size) (region : ℕ) → region < blocks_in_region y * g.setup.gigabytes → generation_word g words y region ≡ g.setup.first

@@ -1,5 +1,5 @@
 -- A scenario's callers, its machine before the first act, its turns, and what they leave.
-use Rattle.std.specs.Prelude.{◌≡◌, ℕ, ◌-◌, ◌<◌, Bool, true, false, List, ◌++◌, length, map, replicate, count_by, None, if◌then◌else◌}
+use Rattle.std.specs.Prelude.{◌≡◌, ℕ, ◌-◌, ◌<◌, ◌≤◌, Bool, true, false, List, [], ◌∷◌, ◌++◌, length, map, replicate, count_by, None, if◌then◌else◌}
 use Rattle.std.specs.List.{flat_map, range_with_len}
 use Rattle.gpi_values.specs.declared.gpi.Gpi.{Gpi}
 use Rattle.gpi_values.specs.declared.security.Source.TheVariants as source
@@ -19,6 +19,7 @@ use Rattle.scenario_text.specs.declared.scenario.Slot.{Slot}
 use Rattle.scenario_text.specs.declared.scenario.Slot.TheVariants as slot
 use Rattle.history.specs.declared.call.Task.{Task}
 use Rattle.history.specs.declared.call.Task.TheVariants as task
+use Rattle.history.specs.declared.call.Answer.{Answer}
 use Rattle.history.specs.declared.outcome.Outcome.{Outcome}
 use Rattle.history.specs.declared.entry.Entry.{Entry}
 use Rattle.rmm_calls.specs.Codes.{is_admitted}
@@ -100,3 +101,16 @@ outcome_of m = record { geometry = m.geometry; answers = map caller_answers m.ca
 abbrev pub NamesCaller : ℕ → Slot → Type 0
 NamesCaller n (slot.Turn c turns) = c < n
 NamesCaller n (slot.Round turns times) = Unit {0}
+
+-- ---- answers of a scenario
+
+-- the number of calls of a script
+abbrev pub calls_in : Script → ℕ
+calls_in (script.Agent asks) = length asks
+calls_in (script.Cpu looks) = length looks
+
+-- a list of answers for each script, none longer than its calls
+abbrev pub AreAnswersOf : List Script → List (List Answer) → Type 0
+AreAnswersOf [] [] = Unit {0}
+AreAnswersOf (s ∷ scripts) (own ∷ answers) = (length own ≤ calls_in s) × AreAnswersOf scripts answers
+AreAnswersOf scripts answers = ⊥

@@ -1,5 +1,5 @@
 -- The facts that stand between any two acts.
-use Rattle.std.specs.Prelude.{◌≡◌, ℕ, List, [], length}
+use Rattle.std.specs.Prelude.{◌≡◌, ℕ, List, length, slice_get, Some}
 use Rattle.std.specs.List.{All}
 use Rattle.gpi_values.specs.declared.gpi.Gpi.{Gpi}
 use Rattle.gpt_descriptors.specs.Sizes.{space_granules}
@@ -7,15 +7,21 @@ use Rattle.gpt_descriptors.specs.Places.{GeometryData, IsGeometry, word_count}
 use Rattle.history.specs.declared.entry.Entry.{Entry}
 use Rattle.history.specs.States.{start, state_after}
 use Rattle.delegate_ops.specs.Agents.{IsAgent}
+use Rattle.delegate_ops.specs.Script.{Event, StandsAfter}
 use Rattle.core_machine.specs.declared.caller.Caller.{Caller}
 use Rattle.core_machine.specs.declared.caller.Caller.TheVariants as caller
 use Rattle.core_machine.specs.Tables.{MeansMap}
 use Rattle.core_machine.specs.Locks.{LocksAreHeld}
+use Rattle.core_machine.specs.Opened.{OpenAreHeld}
+use Rattle.core_machine.specs.Seen.{Sees}
+use Rattle.core_machine.specs.Raised.{GenerationsCount}
+use Rattle.core_machine.specs.Alone.{AreUndisturbed, HoldersAreAlone}
+use Rattle.core_machine.specs.Counted.{AnswersCount}
 use Rattle.core_machine.specs.Told.{Tells}
 
--- the caller was made with this geometry
+-- the caller was made with this geometry and stands at the end of some events of its script
 abbrev pub IsMade : GeometryData → Caller → Type 0
-IsMade g (caller.Agent a) = (a.geometry ≡ g) × IsAgent a
+IsMade g (caller.Agent a) = (a.geometry ≡ g) × IsAgent a × (events : List Event) × StandsAfter a events
 IsMade g (caller.Cpu looks) = Unit {0}
 
 pub record HasShape (g : GeometryData) (first : List Gpi) (words : List ℕ) (callers : List Caller) : Type 0 where
@@ -28,6 +34,11 @@ pub record HasShape (g : GeometryData) (first : List Gpi) (words : List ℕ) (ca
 pub record Stands (g : GeometryData) (first : List Gpi) (words : List ℕ) (callers : List Caller) (h : List Entry) : Type 0 where
   pub shape : HasShape g first words callers
   pub tables : MeansMap g words (state_after (start first) h).map
-  pub closed : (state_after (start first) h).opened ≡ []
+  pub opened : OpenAreHeld (state_after (start first) h).opened callers
   pub locks : LocksAreHeld words callers
+  pub seen : (c : ℕ) (caller : Caller) → slice_get callers c ≡ Some caller → Sees words caller
+  pub generations : GenerationsCount g words callers h
+  pub undisturbed : AreUndisturbed g.setup h
+  pub alone : HoldersAreAlone g.setup callers h
+  pub counted : AnswersCount g callers h
   pub told : Tells first callers h

@@ -8,8 +8,6 @@ mod law;
 mod machine;
 mod played;
 mod playing;
-#[cfg(test)]
-mod tests;
 
 pub use caller::Caller;
 pub use calling::callers;

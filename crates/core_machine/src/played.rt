@@ -1,10 +1,11 @@
-ghost use Rattle.std.specs.Prelude.{◌≡◌, [], IfOk, map, count_by};
-ghost use Rattle.gpt_descriptors.specs.Places.{IsGeometry};
+ghost use Rattle.std.specs.Prelude.{◌≡◌, [], IfOk, length, map, count_by};
+ghost use Rattle.gpt_descriptors.specs.Places.{IsGeometry, word_count};
 ghost use Rattle.scenario_text.specs.Spelling.{WellFormed};
 ghost use Rattle.table_build.specs.Built.{tables_of};
 ghost use Rattle.core_machine.specs.Callers.{caller_answers};
 ghost use Rattle.core_machine.specs.Machine.{StandsFor};
-ghost use Rattle.core_machine.specs.Play.{IsAccepted, geometry_of, is_cpu, opening_of, first_map, played, played_history, outcome_of};
+ghost use Rattle.core_machine.specs.Play.{IsAccepted, geometry_of, is_cpu, opening_of, first_map, played, played_history, outcome_of, AreAnswersOf};
+ghost use Rattle.core_machine.specs.Run.{TellsRun};
 
 use crate::caller::Caller;
 use crate::calling::callers;
@@ -83,13 +84,16 @@ fn leave(alloc: Global, machine: Machine<PlainWords>) -> Result<Outcome, AllocEr
 }
 
 /// All turns of a scenario's schedule, on its built tables: each gives its caller one act, if it has one.
-/// The outcome is what the trace of the schedule leaves, and it stands for that trace's history.
+/// The outcome is what the trace of the schedule leaves, and tells one legal history, that of the trace. It has all
+/// shared words, and no caller has more answers than calls.
 pub fn play(alloc: Global, scenario: &Scenario, tables: Tables) -> Result<Outcome, AllocError>
     requires wellformed { WellFormed scenario.now }
     requires accepted { IsAccepted scenario.now }
     requires built { tables ≡ tables_of scenario.now.setup scenario.now.regions }
     ensures trace { IfOk result (λ outcome. outcome ≡ outcome_of (played scenario.now)) }
-    ensures stands { IfOk result (λ outcome. StandsFor (first_map scenario.now) (played scenario.now) (played_history scenario.now)) }
+    ensures tells { IfOk result (λ outcome. TellsRun scenario.now (played scenario.now) (played_history scenario.now)) }
+    ensures size { IfOk result (λ outcome. length outcome.words ≡ word_count outcome.geometry) }
+    ensures answered { IfOk result (λ outcome. AreAnswersOf scenario.now.scripts outcome.answers) }
 {
     let mut machine = open(alloc, scenario, &tables)?;
     machine.schedule(scenario.schedule.as_slice());

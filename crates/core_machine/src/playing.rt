@@ -41,7 +41,8 @@ impl<W: Words> Machine<W> {
         }
     }
 
-    /// The turns of a line of the schedule, which names one of the callers.
+    /// The turns of a line of the schedule, which names one of the callers. Rounds without callers take no
+    /// time, however many are asked for.
     fn slot(&mut self, slot: Slot)
         requires names { NamesCaller (length self.old.callers) slot }
         requires stands { (first : List Gpi) × (h : List Entry) × StandsFor first self.old h }
@@ -49,6 +50,7 @@ impl<W: Words> Machine<W> {
     {
         match slot {
             Slot::Turn(caller, count) => self.turns(caller as usize, count),
+            Slot::Round(..) if self.callers().is_empty() => {}
             Slot::Round(count, times) => self.rounds(count, times),
         }
     }

@@ -1,16 +1,25 @@
 -- Agents after an act are agents.
-use Rattle.std.proofs.Common.{◌≡◌, ℕ, zero, suc, ◌+◌, ◌≤◌, ◌<◌, ◌++◌, ◌∷◌, [], List, eqb, Some, None, Option, length, drop, refl, sym, ap, ◌∙◌, subst, arith, inl, inr, length-append, length-drop}
+use Rattle.std.proofs.Common.{◌≡◌, ℕ, zero, suc, ◌+◌, ◌≤◌, ◌<◌, ◌++◌, ◌∷◌, [], List, false, cond, Some, None, Option, length, drop, refl, sym, ap, ◌∙◌, subst, arith, inl, inr, length-append, length-drop}
 use Rattle.std.specs.Prelude.{slice_get}
-use Rattle.std.specs.Int.Bits.{bit_and}
-use Rattle.std.proofs.lemmas.Bool.{cases_Bool}
-use Rattle.std.proofs.lemmas.Option.{slice_get_within}
+use Rattle.std.proofs.lemmas.Bool.{cases_Bool, ltb-false}
+use Rattle.std.proofs.lemmas.Option.{slice_get_within, get_or_from_slice_get}
+use Rattle.gpt_descriptors.specs.declared.size.Size.{Size}
+use Rattle.gpt_descriptors.specs.declared.size.Size.TheVariants as size
+use Rattle.gpt_descriptors.specs.declared.size.Generations.{Generations}
+use Rattle.gpt_descriptors.specs.Sizes.{generation_last}
 use Rattle.gpt_descriptors.specs.Places.{GeometryData}
 use Rattle.history.specs.declared.call.Task.{Task}
+use Rattle.history.specs.declared.call.Task.TheVariants as task
+use Rattle.history.specs.Counts.{is_worn}
 use Rattle.history.specs.declared.call.Answer.{Answer}
+use Rattle.delegate_ops.specs.declared.stage.Change.{Change}
+use Rattle.delegate_ops.specs.declared.stage.Change.TheVariants as change
+use Rattle.delegate_ops.specs.declared.stage.Kept.{Kept}
 use Rattle.delegate_ops.specs.declared.stage.Stage.{Stage}
 use Rattle.delegate_ops.specs.declared.stage.Stage.TheVariants as stage
-use Rattle.delegate_ops.specs.Deciding.{idle_answer}
-use Rattle.delegate_ops.specs.Agents.{AgentData, IsAgent, HasActs, task_of, answered_first, idle_answers, lock_bit_of, goes_to, waits_at, after_answer, took_at, took_of, took_under_way}
+use Rattle.delegate_ops.specs.Deciding.{idle_answer, looked_answer, is_granules, worn_answer}
+use Rattle.delegate_ops.specs.Changing.{first_change}
+use Rattle.delegate_ops.specs.Agents.{AgentData, IsAgent, IsStage, IsChangeOf, HasRoom, raises_from, HasActs, is_look, task_of, answered_first, idle_answers, goes_to, waits_at, after_answer, looked_stage, read_all, read_stage, raised_stage, kept_read, kept_changed, kept_raised, stage_after, is_held, took_at, took_of, took_under_way}
 
 -- ---- the answers of tasks without acts
 
@@ -39,13 +48,17 @@ get_drop (t ∷ tasks) (suc n) i = get_drop tasks n i ∙ ap (slice_get (t ∷ t
 
 -- ---- steps
 
-pub goes_is_agent : (a : AgentData) (s : Stage) → IsAgent a → IsAgent (goes_to a s)
-goes_is_agent a s is = record { geometry = is.geometry; no_looks = is.no_looks; answered = is.answered; acts = is.acts }
+pub goes_is_agent : (a : AgentData) (s : Stage) → IsAgent a → IsStage s (task_of a) → IsAgent (goes_to a s)
+goes_is_agent a s is fits = record { geometry = is.geometry; no_looks = is.no_looks; answered = is.answered; acts = is.acts; stage = fits }
 
-pub waits_is_agent : (a : AgentData) → IsAgent a → IsAgent (waits_at a)
-waits_is_agent a is = record { geometry = is.geometry; no_looks = is.no_looks; answered = is.answered; acts = is.acts }
+waits_is_agent : (a : AgentData) → IsAgent a → IsAgent (waits_at a)
+waits_is_agent a is = record { geometry = is.geometry; no_looks = is.no_looks; answered = is.answered; acts = is.acts; stage = is.stage }
 
-pub answer_is_agent : (a : AgentData) (t : Task) (answer : Answer) → IsAgent a → task_of a ≡ Some t → IsAgent (after_answer a answer)
+pub locking_fits : (o : Option Task) → IsStage stage.Locking o
+locking_fits None = tt
+locking_fits (Some t) = tt
+
+answer_is_agent : (a : AgentData) (t : Task) (answer : Answer) → IsAgent a → task_of a ≡ Some t → IsAgent (after_answer a answer)
 answer_is_agent a t answer is under_way =
     let within : length a.answers < length a.tasks = slice_get_within a.tasks (length a.answers) t under_way in
     let rest = drop (length a.answers + 1) a.tasks in
@@ -56,18 +69,130 @@ answer_is_agent a t answer is under_way =
       no_looks = is.no_looks;
       answered = omega (arith, count, within, idle_few a.geometry rest, length-drop (length a.answers + 1) a.tasks);
       acts = subst (HasActs a.geometry) (get_drop a.tasks (length a.answers + 1) (length (idle_answers a.geometry rest)) ∙ ap (slice_get a.tasks) (sym count)) (idle_then_acts a.geometry rest);
+      stage = locking_fits (task_of (after_answer a answer));
     }
 
-pub took_at_is_agent : (a : AgentData) (t : Task) (s : Stage) (old : ℕ) → IsAgent a → task_of a ≡ Some t → IsAgent (took_at a t s old)
-took_at_is_agent a t stage.Locking old is under_way =
-    elim (cases_Bool (eqb (bit_and old (lock_bit_of a.geometry t).mask) 0)) [
-      | inl free ↦ rw free (goes_is_agent a stage.Looking is)
-      | inr held ↦ rw held (waits_is_agent a is)
+-- ---- room in the generations
+
+is_some_worn : (n : ℕ) → is_worn n ≡ false → n + 2 ≤ generation_last
+is_some_worn n fresh = omega (arith, ltb-false _ _ fresh)
+
+-- where none is worn, each may be raised twice
+pub worn_room : (k : Generations) → worn_answer k ≡ None → HasRoom k 2 2 2
+worn_room k fresh =
+    elim (cases_Bool (is_worn k.two)) [
+      | inl worn ↦ absurd (let both = rw worn at fresh in cc)
+      | inr two ↦ elim (cases_Bool (is_worn k.thirty_two)) [
+        | inl worn ↦ absurd (let both = rw (two, worn) at fresh in cc)
+        | inr thirty_two ↦ elim (cases_Bool (is_worn k.five_twelve)) [
+          | inl worn ↦ absurd (let both = rw (two, thirty_two, worn) at fresh in cc)
+          | inr five_twelve ↦ record { two = is_some_worn _ two; thirty_two = is_some_worn _ thirty_two; five_twelve = is_some_worn _ five_twelve }
+        ]
+      ]
     ]
-took_at_is_agent a t stage.Looking old is under_way = goes_is_agent a _ is
-took_at_is_agent a t (stage.Releasing None) old is under_way = goes_is_agent a _ is
-took_at_is_agent a t (stage.Releasing (Some answer)) old is under_way = answer_is_agent a t answer is under_way
-took_at_is_agent a t stage.Stopped old is under_way = is
+
+-- a task with acts that isn't a look is a transition, which makes its first change and the last one
+pub first_is_change : (g : GeometryData) (t : Task) → idle_answer g t ≡ None → is_look t ≡ false → IsChangeOf t (first_change t)
+first_is_change g (task.Delegate pa source) acts no_look = tt
+first_is_change g (task.Undelegate pa source) acts no_look = tt
+first_is_change g task.Unknown acts no_look = absurd cc
+first_is_change g (task.Look pa space) acts no_look = absurd cc
+
+pub last_is_change : (t : Task) (c : Change) → IsChangeOf t c → IsChangeOf t change.Last
+last_is_change (task.Delegate pa source) c is = tt
+last_is_change (task.Undelegate pa source) c is = tt
+last_is_change task.Unknown c is = absurd is
+last_is_change (task.Look pa space) c is = absurd is
+
+room_from : (k : Generations) (c : Change) → HasRoom k 2 2 2 → HasRoom k (raises_from c) (raises_from c) (raises_from c)
+room_from k change.First room = room
+room_from k change.Last room = record { two = omega (arith, room.two); thirty_two = omega (arith, room.thirty_two); five_twelve = omega (arith, room.five_twelve) }
+
+-- the task under way is no look
+pub no_look_at : (a : AgentData) (t : Task) → IsAgent a → task_of a ≡ Some t → is_look t ≡ false
+no_look_at a t is under_way =
+    subst (λ (x : Task). is_look x ≡ false) (get_or_from_slice_get a.tasks (length a.answers) t t under_way)
+    (is.no_looks (length a.answers) t (slice_get_within a.tasks (length a.answers) t under_way))
+
+looked_fits : (o : Option Answer) (word : ℕ) (t : Task) → IsStage (looked_stage o word) (Some t)
+looked_fits None word t = tt
+looked_fits (Some refused) word t = tt
+
+read_all_fits : (g : GeometryData) (o : Option Answer) (t : Task) (k : Kept) → idle_answer g t ≡ None → is_look t ≡ false → worn_answer k.generations ≡ o → IsStage (read_all o t k) (Some t)
+read_all_fits g None t k acts no_look worn =
+    elim (cases_Bool (is_granules k.word)) [
+      | inl granules ↦ rw granules (first_is_change g t acts no_look, room_from k.generations (first_change t) (worn_room k.generations worn))
+      | inr contiguous ↦ rw contiguous tt
+    ]
+read_all_fits g (Some told) t k acts no_look worn = tt
+
+read_fits : (g : GeometryData) (t : Task) (z : Size) (k : Kept) → idle_answer g t ≡ None → is_look t ≡ false → IsStage (read_stage t z k) (Some t)
+read_fits g t size.Two k acts no_look = tt
+read_fits g t size.ThirtyTwo k acts no_look = tt
+read_fits g t size.FiveTwelve k acts no_look = read_all_fits g (worn_answer k.generations) t k acts no_look refl
+
+raised_fits : (t : Task) (c : Change) (z : Size) (k : Kept) → IsStage (stage.Raising c z k) (Some t) → IsStage (raised_stage c z (kept_raised z k)) (Some t)
+raised_fits t change.First size.Two k fits = (fits.0, record { two = omega (arith, fits.1.two); thirty_two = fits.1.thirty_two; five_twelve = fits.1.five_twelve })
+raised_fits t change.Last size.Two k fits = (fits.0, record { two = omega (arith, fits.1.two); thirty_two = fits.1.thirty_two; five_twelve = fits.1.five_twelve })
+raised_fits t change.First size.ThirtyTwo k fits = (fits.0, record { two = fits.1.two; thirty_two = omega (arith, fits.1.thirty_two); five_twelve = fits.1.five_twelve })
+raised_fits t change.Last size.ThirtyTwo k fits = (fits.0, record { two = fits.1.two; thirty_two = omega (arith, fits.1.thirty_two); five_twelve = fits.1.five_twelve })
+raised_fits t change.First size.FiveTwelve k fits =
+    (last_is_change t change.First fits.0, record { two = fits.1.two; thirty_two = fits.1.thirty_two; five_twelve = omega (arith, fits.1.five_twelve) })
+raised_fits t change.Last size.FiveTwelve k fits = tt
+
+changing_fits : (g : GeometryData) (t : Task) (c : Change) (k : Kept) → IsStage (stage.Changing c k) (Some t) → IsStage (stage.Raising c size.Two (kept_changed g t c k)) (Some t)
+changing_fits g t c k fits = (fits.0, record { two = fits.1.two; thirty_two = fits.1.thirty_two; five_twelve = fits.1.five_twelve })
+
+-- the agent at this stage
+abbrev pub at_stage : AgentData → Stage → AgentData
+at_stage a s = record { geometry = a.geometry; tasks = a.tasks; answers = a.answers; stage = s; waited = a.waited }
+
+stage_at : (s : Stage) (o : Option Task) (t : Task) → o ≡ Some t → IsStage s o → IsStage s (Some t)
+stage_at s o t e fits = subst (IsStage s) e fits
+
+back_at : (s : Stage) (o : Option Task) (t : Task) → o ≡ Some t → IsStage s (Some t) → IsStage s o
+back_at s o t e fits = subst (IsStage s) (sym e) fits
+
+pub after_fits : (a : AgentData) (t : Task) (s : Stage) (old : ℕ) → IsAgent (at_stage a s) → task_of a ≡ Some t → IsStage (stage_after a.geometry t s old) (Some t)
+after_fits a t stage.Locking old is under_way = tt
+after_fits a t stage.Looking old is under_way = looked_fits (looked_answer a.geometry t old) old t
+after_fits a t (stage.Reading z k) old is under_way =
+    read_fits a.geometry t z (kept_read z old k) (subst (HasActs a.geometry) under_way is.acts) (no_look_at (at_stage a (stage.Reading z k)) t is under_way)
+after_fits a t (stage.Changing c k) old is under_way = changing_fits a.geometry t c k (stage_at (stage.Changing c k) (task_of a) t under_way is.stage)
+after_fits a t (stage.Raising c z k) old is under_way = raised_fits t c z k (stage_at (stage.Raising c z k) (task_of a) t under_way is.stage)
+after_fits a t (stage.Releasing told) old is under_way = tt
+after_fits a t stage.Stopped old is under_way = tt
+
+-- as the code asks it
+pub next_fits : (a : AgentData) (t : Task) (old : ℕ) (s : Stage) → IsAgent a → task_of a ≡ Some t → s ≡ stage_after a.geometry t a.stage old → IsStage s (task_of a)
+next_fits a t old s is under_way so =
+    subst (λ (x : Stage). IsStage x (task_of a)) (sym so) (back_at (stage_after a.geometry t a.stage old) (task_of a) t under_way (after_fits a t a.stage old is under_way))
+
+goes_on_is_agent : (a : AgentData) (t : Task) (s : Stage) (old : ℕ) → IsAgent (at_stage a s) → task_of a ≡ Some t
+    → IsAgent (cond (is_held a.geometry t s old) (waits_at (at_stage a s)) (goes_to (at_stage a s) (stage_after a.geometry t s old)))
+goes_on_is_agent a t s old is under_way =
+    elim (cases_Bool (is_held a.geometry t s old)) [
+      | inl held ↦ rw held (waits_is_agent (at_stage a s) is)
+      | inr free ↦ rw free (goes_is_agent (at_stage a s) (stage_after a.geometry t s old) is (back_at (stage_after a.geometry t s old) (task_of a) t under_way (after_fits a t s old is under_way)))
+    ]
+
+pub took_at_is_agent : (a : AgentData) (t : Task) (s : Stage) (old : ℕ) → IsAgent (at_stage a s) → task_of a ≡ Some t → IsAgent (took_at (at_stage a s) t s old)
+took_at_is_agent a t stage.Locking old is under_way = goes_on_is_agent a t stage.Locking old is under_way
+took_at_is_agent a t stage.Looking old is under_way = goes_on_is_agent a t stage.Looking old is under_way
+took_at_is_agent a t (stage.Reading z k) old is under_way = goes_on_is_agent a t (stage.Reading z k) old is under_way
+took_at_is_agent a t (stage.Changing c k) old is under_way = goes_on_is_agent a t (stage.Changing c k) old is under_way
+took_at_is_agent a t (stage.Raising c z k) old is under_way = goes_on_is_agent a t (stage.Raising c z k) old is under_way
+took_at_is_agent a t (stage.Releasing None) old is under_way = goes_on_is_agent a t (stage.Releasing None) old is under_way
+took_at_is_agent a t (stage.Releasing (Some answer)) old is under_way = answer_is_agent (at_stage a (stage.Releasing (Some answer))) t answer is under_way
+took_at_is_agent a t stage.Stopped old is under_way = goes_on_is_agent a t stage.Stopped old is under_way
+
+took_some_is_agent : (a : AgentData) (o : Option Task) (old : ℕ) → IsAgent a → task_of a ≡ o → IsAgent (took_under_way a o old)
+took_some_is_agent a None old is under_way = is
+took_some_is_agent a (Some t) old is under_way = took_at_is_agent a t a.stage old is under_way
+
+-- an agent after an act is one
+pub took_is_agent : (a : AgentData) (old : ℕ) → IsAgent a → IsAgent (took_of a old)
+took_is_agent a old is = took_some_is_agent a (task_of a) old is refl
 
 -- the agent after an act of the task under way
 pub took_by_task : (a : AgentData) (t : Task) (old : ℕ) → task_of a ≡ Some t → took_of a old ≡ took_at a t a.stage old

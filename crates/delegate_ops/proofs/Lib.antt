@@ -1,3 +1,6 @@
+pub mod FieldLemmas
 pub mod DecidingLemmas
 pub mod AgentLemmas
 pub mod ScriptLemmas
+pub mod QuietLemmas
+pub mod FieldEntryLemmas

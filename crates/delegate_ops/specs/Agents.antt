@@ -1,20 +1,30 @@
 -- An agent as plain data, its next act, and the agent after an act.
-use Rattle.std.specs.Prelude.{◌≡◌, ℕ, ◌+◌, ◌≤◌, Bool, true, false, List, [], ◌∷◌, ◌++◌, length, drop, slice_get, Option, Some, None, ◌==◌, if◌then◌else◌, IsTrue, is_some, option_and_then}
+use Rattle.std.specs.Prelude.{◌≡◌, ℕ, ◌+◌, ◌≤◌, Bool, true, false, not, List, [], ◌∷◌, ◌++◌, length, drop, slice_get, Option, Some, None, ◌==◌, if◌then◌else◌, IsTrue, is_some, option_and_then}
 use Rattle.std.specs.List.{All}
 use Rattle.std.specs.Option.{option_map}
 use Rattle.std.specs.Int.Bits.{bit_and}
+use Rattle.gpt_descriptors.specs.declared.size.Size.{Size}
+use Rattle.gpt_descriptors.specs.declared.size.Size.TheVariants as size
+use Rattle.gpt_descriptors.specs.declared.size.Generations.{Generations}
+use Rattle.gpt_descriptors.specs.Sizes.{generation_last}
 use Rattle.gpt_descriptors.specs.Entries.{l1_entry}
 use Rattle.gpt_descriptors.specs.Places.{GeometryData, IsGeometry, l1_place_of}
 use Rattle.shared_words.specs.declared.act.Act.{Act}
 use Rattle.shared_words.specs.declared.act.Act.TheVariants as act
 use Rattle.bit_locks.specs.declared.lock.Bit.{Bit}
 use Rattle.bit_locks.specs.Locks.{lock_number, bit_with, take_act, release_act}
+use Rattle.invalidate.specs.Generations.{gen_load_of, gen_raise_of}
 use Rattle.history.specs.declared.call.Task.{Task}
 use Rattle.history.specs.declared.call.Task.TheVariants as task
 use Rattle.history.specs.declared.call.Answer.{Answer}
+use Rattle.history.specs.declared.call.Answer.TheVariants as answer
+use Rattle.delegate_ops.specs.declared.stage.Change.{Change}
+use Rattle.delegate_ops.specs.declared.stage.Change.TheVariants as change
+use Rattle.delegate_ops.specs.declared.stage.Kept.{Kept}
 use Rattle.delegate_ops.specs.declared.stage.Stage.{Stage}
 use Rattle.delegate_ops.specs.declared.stage.Stage.TheVariants as stage
-use Rattle.delegate_ops.specs.Deciding.{address_of, idle_answer, looked_answer}
+use Rattle.delegate_ops.specs.Deciding.{address_of, idle_answer, looked_answer, is_granules, generation_in, worn_answer}
+use Rattle.delegate_ops.specs.Changing.{first_change, changed_word, with_generation, raised_at}
 
 pub record AgentData : Type 0 where
   pub geometry : GeometryData
@@ -56,6 +66,9 @@ lock_bit_of g t = bit_with (lock_number g.setup (address_of t))
 abbrev pub act_at : GeometryData → Stage → Task → Option Act
 act_at g stage.Locking t = Some (take_act (lock_bit_of g t))
 act_at g stage.Looking t = option_map act.Load (l1_place_of g (address_of t))
+act_at g (stage.Reading z k) t = Some (gen_load_of g z (address_of t))
+act_at g (stage.Changing c k) t = option_map (λ place. act.Store place (changed_word g t c k.word)) (l1_place_of g (address_of t))
+act_at g (stage.Raising c z k) t = Some (gen_raise_of g z (address_of t) (generation_in z k.generations))
 act_at g (stage.Releasing answer) t = Some (release_act (lock_bit_of g t))
 act_at g stage.Stopped t = None
 
@@ -82,13 +95,58 @@ goes_to a s = record { geometry = a.geometry; tasks = a.tasks; answers = a.answe
 abbrev pub waits_at : AgentData → AgentData
 waits_at a = record { geometry = a.geometry; tasks = a.tasks; answers = a.answers; stage = a.stage; waited = true }
 
+-- where a transition goes on that has loaded its L1 word and was refused so, if it was
+abbrev pub looked_stage : Option Answer → ℕ → Stage
+looked_stage (Some refused) word = stage.Releasing (Some refused)
+looked_stage None word = stage.Reading size.Two (record { word = word; generations = record { two = 0; thirty_two = 0; five_twelve = 0 } })
+
+-- where it goes on with all generations loaded, and worn so, if they are
+abbrev pub read_all : Option Answer → Task → Kept → Stage
+read_all (Some worn) t k = stage.Releasing (Some worn)
+read_all None t k = if is_granules k.word then stage.Changing (first_change t) k else stage.Releasing None
+
+-- where it goes on with the generation of this size loaded
+abbrev pub read_stage : Task → Size → Kept → Stage
+read_stage t size.Two k = stage.Reading size.ThirtyTwo k
+read_stage t size.ThirtyTwo k = stage.Reading size.FiveTwelve k
+read_stage t size.FiveTwelve k = read_all (worn_answer k.generations) t k
+
+-- where it goes on with the generation of this size raised
+abbrev pub raised_stage : Change → Size → Kept → Stage
+raised_stage c size.Two k = stage.Raising c size.ThirtyTwo k
+raised_stage c size.ThirtyTwo k = stage.Raising c size.FiveTwelve k
+raised_stage change.First size.FiveTwelve k = stage.Changing change.Last k
+raised_stage change.Last size.FiveTwelve k = stage.Releasing (Some (answer.Done k.generations))
+
+-- what is kept after an act
+abbrev pub kept_read : Size → ℕ → Kept → Kept
+kept_read z old k = record { word = k.word; generations = with_generation z old k.generations }
+
+abbrev pub kept_changed : GeometryData → Task → Change → Kept → Kept
+kept_changed g t c k = record { word = changed_word g t c k.word; generations = k.generations }
+
+abbrev pub kept_raised : Size → Kept → Kept
+kept_raised z k = record { word = k.word; generations = raised_at z k.generations }
+
+-- where a task goes on after its act at a stage that answered this word, if it neither waits nor ends there
+abbrev pub stage_after : GeometryData → Task → Stage → ℕ → Stage
+stage_after g t stage.Locking old = stage.Looking
+stage_after g t stage.Looking old = looked_stage (looked_answer g t old) old
+stage_after g t (stage.Reading z k) old = read_stage t z (kept_read z old k)
+stage_after g t (stage.Changing c k) old = stage.Raising c size.Two (kept_changed g t c k)
+stage_after g t (stage.Raising c z k) old = raised_stage c z (kept_raised z k)
+stage_after g t (stage.Releasing told) old = stage.Stopped
+stage_after g t stage.Stopped old = stage.Stopped
+
+-- the act was a lock that wasn't free
+abbrev pub is_held : GeometryData → Task → Stage → ℕ → Bool
+is_held g t stage.Locking old = not (bit_and old (lock_bit_of g t).mask == 0)
+is_held g t s old = false
+
 -- the agent after the act of a task at a stage that answered this word
 abbrev pub took_at : AgentData → Task → Stage → ℕ → AgentData
-took_at a t stage.Locking old = if bit_and old (lock_bit_of a.geometry t).mask == 0 then goes_to a stage.Looking else waits_at a
-took_at a t stage.Looking old = goes_to a (stage.Releasing (looked_answer a.geometry t old))
-took_at a t (stage.Releasing None) old = goes_to a stage.Stopped
 took_at a t (stage.Releasing (Some answer)) old = after_answer a answer
-took_at a t stage.Stopped old = a
+took_at a t s old = if is_held a.geometry t s old then waits_at a else goes_to a (stage_after a.geometry t s old)
 
 abbrev pub took_under_way : AgentData → Option Task → ℕ → AgentData
 took_under_way a None old = a
@@ -110,8 +168,37 @@ abbrev pub HasActs : GeometryData → Option Task → Type 0
 HasActs g None = Unit {0}
 HasActs g (Some t) = idle_answer g t ≡ None
 
+-- a transition makes this change: a delegate the last one alone
+abbrev pub IsChangeOf : Task → Change → Type 0
+IsChangeOf (task.Delegate pa source) change.Last = Unit {0}
+IsChangeOf (task.Undelegate pa source) c = Unit {0}
+IsChangeOf t c = ⊥
+
+-- each generation can be raised so often before it passes the last one
+pub record HasRoom (k : Generations) (l m n : ℕ) : Type 0 where
+  pub two : k.two + l ≤ generation_last
+  pub thirty_two : k.thirty_two + m ≤ generation_last
+  pub five_twelve : k.five_twelve + n ≤ generation_last
+
+-- the raises of a generation from a change on, and behind it
+abbrev pub raises_from : Change → ℕ
+raises_from change.First = 2
+raises_from change.Last = 1
+
+abbrev pub raises_behind : Change → ℕ
+raises_behind change.First = 1
+raises_behind change.Last = 0
+
+abbrev pub IsStage : Stage → Option Task → Type 0
+IsStage (stage.Changing c k) (Some t) = IsChangeOf t c × HasRoom k.generations (raises_from c) (raises_from c) (raises_from c)
+IsStage (stage.Raising c size.Two k) (Some t) = IsChangeOf t c × HasRoom k.generations (raises_from c) (raises_from c) (raises_from c)
+IsStage (stage.Raising c size.ThirtyTwo k) (Some t) = IsChangeOf t c × HasRoom k.generations (raises_behind c) (raises_from c) (raises_from c)
+IsStage (stage.Raising c size.FiveTwelve k) (Some t) = IsChangeOf t c × HasRoom k.generations (raises_behind c) (raises_behind c) (raises_from c)
+IsStage s o = Unit {0}
+
 pub record IsAgent (a : AgentData) : Type 0 where
   pub geometry : IsGeometry a.geometry
   pub no_looks : All (λ t. is_look t ≡ false) a.tasks
   pub answered : length a.answers ≤ length a.tasks
   pub acts : HasActs a.geometry (task_of a)
+  pub stage : IsStage a.stage (task_of a)

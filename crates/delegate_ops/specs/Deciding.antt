@@ -1,9 +1,16 @@
 -- What a transition is answered, and by what.
-use Rattle.std.specs.Prelude.{ℕ, ◌/◌, ◌%◌, Bool, false, not, ◌||◌, ◌==◌, nat_lt, Option, Some, None, if◌then◌else◌}
+use Rattle.std.specs.Prelude.{ℕ, ◌/◌, ◌%◌, Bool, true, false, not, ◌||◌, ◌==◌, nat_lt, [], ◌∷◌, Option, Some, None, if◌then◌else◌}
+use Rattle.std.specs.List.{find}
+use Rattle.std.specs.Option.{option_map}
 use Rattle.gpi_values.specs.declared.gpi.Gpi.{Gpi}
 use Rattle.gpi_values.specs.Values.{value_of}
+use Rattle.gpt_descriptors.specs.declared.size.Size.{Size}
+use Rattle.gpt_descriptors.specs.declared.size.Size.TheVariants as size
+use Rattle.gpt_descriptors.specs.declared.size.Generations.{Generations}
+use Rattle.gpt_descriptors.specs.declared.entry.L1Entry.{L1Entry}
+use Rattle.gpt_descriptors.specs.declared.entry.L1Entry.TheVariants as l1
 use Rattle.gpt_descriptors.specs.Sizes.{granule_bytes, space_bytes}
-use Rattle.gpt_descriptors.specs.Entries.{word_gpi}
+use Rattle.gpt_descriptors.specs.Entries.{l1_entry, word_gpi}
 use Rattle.gpt_descriptors.specs.Level0.{is_table}
 use Rattle.gpt_descriptors.specs.Places.{GeometryData, l0_word_of}
 use Rattle.history.specs.declared.call.Task.{Task}
@@ -11,6 +18,7 @@ use Rattle.history.specs.declared.call.Task.TheVariants as task
 use Rattle.history.specs.declared.call.Answer.{Answer}
 use Rattle.history.specs.declared.call.Answer.TheVariants as answer
 use Rattle.history.specs.Legality.{needed}
+use Rattle.history.specs.Counts.{is_worn}
 
 -- the byte address of a task, where it has one
 abbrev pub address_of : Task → ℕ
@@ -33,6 +41,8 @@ idle_answer g t = if is_unusable g (address_of t) then Some answer.Inval else No
 abbrev pub granule_place : GeometryData → ℕ → ℕ
 granule_place g pa = pa / granule_bytes g.setup % 16
 
+-- ---- by the L1 word
+
 -- this GPI is the needed one
 abbrev pub is_needed : Option Gpi → Gpi → Bool
 is_needed None found = false
@@ -46,3 +56,25 @@ refusal_of t (Some found) = if is_needed (needed t) found then None else Some (a
 -- what a transition is answered that loads this L1 word under the lock
 abbrev pub looked_answer : GeometryData → Task → ℕ → Option Answer
 looked_answer g t word = refusal_of t (word_gpi word (granule_place g (address_of t)))
+
+abbrev pub is_granules_entry : Option L1Entry → Bool
+is_granules_entry (Some (l1.Granules word)) = true
+is_granules_entry (Some (l1.Contig z gpi)) = false
+is_granules_entry None = false
+
+-- the word is a granules descriptor
+abbrev pub is_granules : ℕ → Bool
+is_granules word = is_granules_entry (l1_entry word)
+
+-- ---- by the generations
+
+abbrev pub generation_in : Size → Generations → ℕ
+generation_in size.Two k = k.two
+generation_in size.ThirtyTwo k = k.thirty_two
+generation_in size.FiveTwelve k = k.five_twelve
+
+-- what a transition is answered that loads these generations under the lock: the first size whose
+-- generation is too near to the last one
+abbrev pub worn_answer : Generations → Option Answer
+worn_answer k =
+    option_map (λ z. answer.Worn z (generation_in z k)) (find (λ z. is_worn (generation_in z k)) (size.Two ∷ size.ThirtyTwo ∷ size.FiveTwelve ∷ []))

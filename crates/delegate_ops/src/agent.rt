@@ -1,16 +1,22 @@
-ghost use Rattle.std.specs.Prelude.{◌≡◌, ◌-◌, ◌<◌, ◌≤◌, ◌^◌, ◌++◌, IfOk, IsSome, Some, None, length, drop, false, slice_get, vec_capacity};
+ghost use Rattle.std.specs.Prelude.{◌≡◌, ◌-◌, ◌<◌, ◌≤◌, ◌^◌, ◌++◌, IfOk, IsSome, IsTrue, is_some, Some, None, length, drop, false, slice_get, vec_capacity};
 ghost use Rattle.std.specs.List.{All};
 ghost use Rattle.std.specs.Option.{option_map};
+ghost use Rattle.gpt_descriptors.specs.Sizes.{generation_last};
+ghost use Rattle.gpt_descriptors.specs.Entries.{l1_entry};
 ghost use Rattle.gpt_descriptors.specs.Places.{l1_place_of};
+ghost use Rattle.invalidate.specs.Generations.{gen_load_of, gen_raise_of};
 ghost use Rattle.shared_words.specs.declared.act.Act.TheVariants as act;
-ghost use Rattle.delegate_ops.specs.Deciding.{address_of, idle_answer};
-ghost use Rattle.delegate_ops.specs.Agents.{is_look, task_of, fresh, idle_answers, lock_bit_of, act_at, next_of, goes_to, after_answer, took_at, took_of, HasActs, IsReadable, IsAgent};
+ghost use Rattle.delegate_ops.specs.Deciding.{address_of, idle_answer, looked_answer, worn_answer};
+ghost use Rattle.delegate_ops.specs.Changing.{changed_word};
+ghost use Rattle.delegate_ops.specs.Agents.{stage_after, is_held, looked_stage, read_all, read_stage, raised_stage, is_look, task_of, fresh, idle_answers, lock_bit_of, act_at, next_of, goes_to, after_answer, took_at, took_of, HasActs, IsReadable, IsStage, IsAgent};
 
-use crate::deciding::{address_of, idle_answer, looked_answer};
-use crate::stage::Stage;
+use crate::changing::{changed_word, first_change, generation_in};
+use crate::deciding::{address_of, idle_answer, is_granules, looked_answer, worn_answer};
+use crate::stage::{Change, Kept, Stage};
 use bit_locks::{Bit, drop_act, lock_of, take, was_free};
-use gpt_descriptors::Geometry;
+use gpt_descriptors::{Geometry, Size};
 use history::{Answer, Task};
+use invalidate::{gen_load, gen_raise};
 use shared_words::Act;
 use std::alloc::{AllocError, Global};
 use std::marker::Model;
@@ -65,6 +71,53 @@ fn answer_idle(geometry: &Geometry, tasks: &[Task], answers: &mut Vec<Answer>)
     }
 }
 
+/// Where a transition goes on that has loaded this L1 word.
+fn looked_stage(geometry: &Geometry, task: Task, word: u64) -> Stage
+    requires { IsTrue (is_some (l1_entry word)) }
+    ensures { result ≡ looked_stage (looked_answer geometry.now task word) word }
+{
+    match looked_answer(geometry, task, word) {
+        Some(refused) => Stage::Releasing(Some(refused)),
+        None => Stage::Reading(Size::Two, Kept::new(word)),
+    }
+}
+
+/// Where a transition goes on that has loaded all generations.
+fn read_all(task: Task, kept: Kept) -> Stage
+    ensures { result ≡ read_all (worn_answer kept.generations) task kept }
+{
+    match worn_answer(kept.generations) {
+        Some(worn) => Stage::Releasing(Some(worn)),
+        None if is_granules(kept.word) => Stage::Changing(first_change(task), kept),
+        None => Stage::Releasing(None),
+    }
+}
+
+/// Where a transition goes on that has loaded the generation of this size.
+fn read_stage(task: Task, size: Size, kept: Kept) -> Stage
+    ensures { result ≡ read_stage task size kept }
+{
+    match size {
+        Size::Two => Stage::Reading(Size::ThirtyTwo, kept),
+        Size::ThirtyTwo => Stage::Reading(Size::FiveTwelve, kept),
+        Size::FiveTwelve => read_all(task, kept),
+    }
+}
+
+/// Where a transition goes on that has raised the generation of this size after a change.
+fn raised_stage(change: Change, size: Size, kept: Kept) -> Stage
+    ensures { result ≡ raised_stage change size kept }
+{
+    match (size, change) {
+        (Size::Two, _) => Stage::Raising(change, Size::ThirtyTwo, kept),
+        (Size::ThirtyTwo, _) => Stage::Raising(change, Size::FiveTwelve, kept),
+        (Size::FiveTwelve, Change::First) => Stage::Changing(Change::Last, kept),
+        (Size::FiveTwelve, Change::Last) => {
+            Stage::Releasing(Some(Answer::Done(kept.generations)))
+        }
+    }
+}
+
 impl Agent {
     /// An agent before its first act. Its leading tasks without acts are answered.
     pub fn new(alloc: Global, geometry: Geometry, tasks: Vec<Task>) -> Result<Agent, AllocError>
@@ -111,14 +164,54 @@ impl Agent {
         }
     }
 
+    /// The act that writes the L1 word of a task with acts with this change of its granule.
+    #[tactic(auto, using(crate::proofs::DecidingLemmas::acts_inside))]
+    fn change(&self, task: Task, change: Change, word: u64) -> Option<Act>
+        requires { idle_answer self.now.geometry task ≡ None }
+        ensures { result ≡ option_map (λ place. act.Store place (changed_word self.now.geometry task change word)) (l1_place_of self.now.geometry (address_of task)) }
+    {
+        match self.geometry.l1_place(address_of(task)) {
+            Some(place) => Some(Act::Store(
+                place,
+                changed_word(&self.geometry, task, change, word),
+            )),
+            None => None,
+        }
+    }
+
+    /// The act that loads a generation around a task with acts.
+    #[tactic(auto, using(crate::proofs::DecidingLemmas::acts_inside))]
+    fn read(&self, task: Task, size: Size) -> Act
+        requires { idle_answer self.now.geometry task ≡ None }
+        ensures { result ≡ gen_load_of self.now.geometry size (address_of task) }
+    {
+        gen_load(&self.geometry, size, address_of(task))
+    }
+
+    /// The act that raises a generation around a task with acts.
+    #[tactic(auto, using(crate::proofs::DecidingLemmas::acts_inside))]
+    fn raise(&self, task: Task, size: Size, old: u64) -> Act
+        requires acts { idle_answer self.now.geometry task ≡ None }
+        requires room { old < generation_last }
+        ensures { result ≡ gen_raise_of self.now.geometry size (address_of task) old }
+    {
+        gen_raise(&self.geometry, size, address_of(task), old)
+    }
+
     /// The next act of a task with acts, which is under way.
     fn act(&self, task: Task) -> Option<Act>
-        requires { idle_answer self.now.geometry task ≡ None }
+        requires task { task_of self.now ≡ Some task }
+        requires acts { idle_answer self.now.geometry task ≡ None }
         ensures { result ≡ act_at self.now.geometry self.now.stage task }
     {
         match self.stage {
             Stage::Locking => Some(take(self.lock(task))),
             Stage::Looking => self.look(task),
+            Stage::Reading(size, _) => Some(self.read(task, size)),
+            Stage::Changing(change, kept) => self.change(task, change, kept.word),
+            Stage::Raising(_, size, kept) => {
+                Some(self.raise(task, size, generation_in(size, kept.generations)))
+            }
             Stage::Releasing(_) => Some(drop_act(self.lock(task))),
             Stage::Stopped => None,
         }
@@ -147,10 +240,42 @@ impl Agent {
 
     /// Goes to this stage, without having waited.
     fn go_to(&mut self, stage: Stage)
+        requires { IsStage stage (task_of self.old) }
         ensures { self.new ≡ goes_to self.old stage }
     {
         self.stage = stage;
         self.waited = false;
+    }
+
+    /// Where a task with acts goes on whose next act answered `old`, if it neither waits nor ends there.
+    fn stage_after(&self, task: Task, old: u64) -> Stage
+        requires task { task_of self.now ≡ Some task }
+        requires readable { IsReadable self.now.stage old }
+        ensures { result ≡ stage_after self.now.geometry task self.now.stage old }
+    {
+        match self.stage {
+            Stage::Locking => Stage::Looking,
+            Stage::Looking => looked_stage(&self.geometry, task, old),
+            Stage::Reading(size, kept) => read_stage(task, size, kept.with(size, old)),
+            Stage::Changing(change, kept) => {
+                let word = changed_word(&self.geometry, task, change, kept.word);
+                let generations = kept.generations;
+                Stage::Raising(change, Size::Two, Kept { word, generations })
+            }
+            Stage::Raising(change, size, kept) => {
+                let value = generation_in(size, kept.generations) + 1;
+                raised_stage(change, size, kept.with(size, value))
+            }
+            Stage::Releasing(_) | Stage::Stopped => Stage::Stopped,
+        }
+    }
+
+    /// Whether the next act of a task, which answered `old`, was a lock that wasn't free.
+    fn is_held(&self, task: Task, old: u64) -> bool
+        requires { idle_answer self.now.geometry task ≡ None }
+        ensures { result ≡ is_held self.now.geometry task self.now.stage old }
+    {
+        matches!(self.stage, Stage::Locking) && !was_free(self.lock(task), old)
     }
 
     /// Goes on with a task whose next act answered `old`.
@@ -160,21 +285,13 @@ impl Agent {
         requires readable { IsReadable self.old.stage old }
         ensures { self.new ≡ took_at self.old task self.old.stage old }
     {
-        match self.stage {
-            Stage::Locking => {
-                if was_free(self.lock(task), old) {
-                    self.go_to(Stage::Looking);
-                } else {
-                    self.waited = true;
-                }
-            }
-            Stage::Looking => {
-                let answer = looked_answer(&self.geometry, task, old);
-                self.go_to(Stage::Releasing(answer));
-            }
-            Stage::Releasing(Some(answer)) => self.end(answer),
-            Stage::Releasing(None) => self.go_to(Stage::Stopped),
-            Stage::Stopped => {}
+        if let Stage::Releasing(Some(answer)) = self.stage {
+            self.end(answer);
+        } else if self.is_held(task, old) {
+            self.waited = true;
+        } else {
+            let stage = self.stage_after(task, old);
+            self.go_to(stage);
         }
     }
 
@@ -208,5 +325,15 @@ impl Agent {
         ensures { result ≡ length self.now.tasks - length self.now.answers }
     {
         (self.tasks.len() - self.answers.len()) as u64
+    }
+}
+
+#[cfg(test)]
+impl Agent {
+    /// Whether the next act may answer `old`: one that looks at an L1 word answers a descriptor.
+    pub fn may_take(&self, old: u64) -> bool
+        ensures { IsTrue result → IsReadable self.now.stage old }
+    {
+        !matches!(self.stage, Stage::Looking) || gpt_descriptors::decode_l1(old).is_some()
     }
 }

@@ -1,11 +1,12 @@
 ghost use Rattle.std.specs.Prelude.{◌≡◌, ◌<◌, ◌^◌, IsTrue, IsSome, is_some};
 ghost use Rattle.gpt_descriptors.specs.Entries.{l1_entry};
 ghost use Rattle.history.specs.Legality.{needed};
-ghost use Rattle.delegate_ops.specs.Deciding.{address_of, is_unusable, idle_answer, is_needed, looked_answer};
+ghost use Rattle.history.specs.Counts.{is_worn};
+ghost use Rattle.delegate_ops.specs.Deciding.{address_of, is_unusable, idle_answer, is_needed, looked_answer, is_granules, worn_answer};
 
-use gpi_values::{Gpi, nibble, own};
-use gpt_descriptors::{Geometry, gpi_at};
-use history::{Answer, Task};
+use gpi_values::{Gpi, nibble};
+use gpt_descriptors::{GEN_LAST, Generations, Geometry, L1Entry, Size, decode_l1, gpi_at};
+use history::{Answer, Task, needed};
 
 /// The byte address of a task.
 pub fn address_of(task: Task) -> u64
@@ -46,10 +47,9 @@ pub fn idle_answer(geometry: &Geometry, task: Task) -> Option<Answer>
 fn is_needed(task: Task, found: Gpi) -> bool
     ensures { result ≡ is_needed (needed task) found }
 {
-    match task {
-        Task::Delegate(..) => nibble(found) == nibble(Gpi::NonSecure),
-        Task::Undelegate(_, source) => nibble(found) == nibble(own(source)),
-        Task::Unknown | Task::Look(..) => false,
+    match needed(task) {
+        Some(gpi) => nibble(found) == nibble(gpi),
+        None => false,
     }
 }
 
@@ -63,5 +63,35 @@ pub fn looked_answer(geometry: &Geometry, task: Task, word: u64) -> Option<Answe
     match gpi_at(word, place) {
         Some(found) if !is_needed(task, found) => Some(Answer::Perm(found)),
         _ => None,
+    }
+}
+
+/// Whether the word is a granules descriptor.
+pub fn is_granules(word: u64) -> bool
+    ensures { result ≡ is_granules word }
+{
+    matches!(decode_l1(word), Some(L1Entry::Granules(_)))
+}
+
+/// Whether a generation is too near to the last one for a transition, which raises it up to twice.
+fn is_worn(value: u64) -> bool
+    ensures { result ≡ is_worn value }
+{
+    value > GEN_LAST - 2
+}
+
+/// What a transition is answered that loads these generations under the lock, or `None` where none of
+/// them is worn.
+pub fn worn_answer(generations: Generations) -> Option<Answer>
+    ensures { result ≡ worn_answer generations }
+{
+    if is_worn(generations.two) {
+        Some(Answer::Worn(Size::Two, generations.two))
+    } else if is_worn(generations.thirty_two) {
+        Some(Answer::Worn(Size::ThirtyTwo, generations.thirty_two))
+    } else if is_worn(generations.five_twelve) {
+        Some(Answer::Worn(Size::FiveTwelve, generations.five_twelve))
+    } else {
+        None
     }
 }

@@ -3,7 +3,9 @@
 #![tactic(auto)]
 
 mod agent;
+mod changing;
 mod deciding;
+mod refused;
 mod script;
 mod stage;
 #[cfg(test)]
@@ -11,5 +13,6 @@ mod tests;
 
 pub use agent::Agent;
 pub use history::{Answer, Task};
+pub use refused::refused_calls_write_nothing;
 pub use script::steps_walk_the_script;
-pub use stage::Stage;
+pub use stage::{Change, Kept, Stage};

@@ -1,9 +1,6 @@
-ghost use Rattle.std.specs.Prelude.{◌≡◌, ℕ, false, IsTrue, is_some};
-ghost use Rattle.gpt_descriptors.specs.Entries.{l1_entry};
-
 use super::*;
 use gpi_values::{Gpi, Source};
-use gpt_descriptors::{Geometry, MaxBlock, Setup, decode_l1, l0_good};
+use gpt_descriptors::{Generations, Geometry, MaxBlock, Setup, Size, l0_good};
 use shared_words::{Act, PlainWords, Words};
 use std::alloc::Global;
 use std::test::Fail;
@@ -24,6 +21,87 @@ const UNLOCK: Act = Act::And(0, !1);
 const DELEGATE: Task = Task::Delegate(0, Source::Realm);
 
 const UNDELEGATE: Task = Task::Undelegate(0, Source::Realm);
+
+/// The loads of the generations around address 0, and what they answer at the start.
+const READ: [(Act, u64); 3] = [
+    (Act::Load(2), 0),
+    (Act::Load(2050), 0),
+    (Act::Load(2178), 0),
+];
+
+/// An address with lock 1, L1 word 0x2245 and field 3 of it, and with the generations 0x112 of 2 MB,
+/// 0x11 of 32 MB and 1 of 512 MB.
+const INSIDE: u64 = 0x2245_3000;
+
+/// The generations around it before its first act, the first two as high as they may be.
+const INSIDE_GENERATIONS: [(usize, u64); 3] = [
+    (276, 0x7fff_ffff_ffff_fffd),
+    (2067, 0x7fff_ffff_ffff_fffd),
+    (2179, 500),
+];
+
+/// Each act of its delegate by realm, and what the act answers.
+const DELEGATE_INSIDE: [(Act, u64); 10] = [
+    (Act::Or(0, 2), 0),
+    (Act::Load(10960), NON_SECURE),
+    (Act::Load(276), 0x7fff_ffff_ffff_fffd),
+    (Act::Load(2067), 0x7fff_ffff_ffff_fffd),
+    (Act::Load(2179), 500),
+    (Act::Store(10960, 0x9999_9999_9999_b999), 0),
+    (Act::Store(276, 0x7fff_ffff_ffff_fffe), 0),
+    (Act::Store(2067, 0x7fff_ffff_ffff_fffe), 0),
+    (Act::Store(2179, 501), 0),
+    (Act::And(0, !2), 2),
+];
+
+/// Each act of its undelegate by secure.
+const UNDELEGATE_INSIDE: [(Act, u64); 14] = [
+    (Act::Or(0, 2), 0),
+    (Act::Load(10960), SECURE),
+    (Act::Load(276), 0x7fff_ffff_ffff_fffd),
+    (Act::Load(2067), 0x7fff_ffff_ffff_fffd),
+    (Act::Load(2179), 500),
+    (Act::Store(10960, 0x8888_8888_8888_0888), 0),
+    (Act::Store(276, 0x7fff_ffff_ffff_fffe), 0),
+    (Act::Store(2067, 0x7fff_ffff_ffff_fffe), 0),
+    (Act::Store(2179, 501), 0),
+    (Act::Store(10960, 0x8888_8888_8888_9888), 0),
+    (Act::Store(276, 0x7fff_ffff_ffff_ffff), 0),
+    (Act::Store(2067, 0x7fff_ffff_ffff_ffff), 0),
+    (Act::Store(2179, 502), 0),
+    (Act::And(0, !2), 2),
+];
+
+/// Generations around address 0, the first size that is worn, and its value.
+const WORN: [([(usize, u64); 3], Size, u64); 3] = [
+    (
+        [
+            (2, 0x7fff_ffff_ffff_fffe),
+            (2050, 0x7fff_ffff_ffff_ffff),
+            (2178, 0x7fff_ffff_ffff_ffff),
+        ],
+        Size::Two,
+        0x7fff_ffff_ffff_fffe,
+    ),
+    (
+        [
+            (2, 0x7fff_ffff_ffff_fffd),
+            (2050, 0x7fff_ffff_ffff_ffff),
+            (2178, 0x7fff_ffff_ffff_fffe),
+        ],
+        Size::ThirtyTwo,
+        0x7fff_ffff_ffff_ffff,
+    ),
+    (
+        [
+            (2, 0),
+            (2050, 0x7fff_ffff_ffff_fffd),
+            (2178, 0x7fff_ffff_ffff_fffe),
+        ],
+        Size::FiveTwelve,
+        0x7fff_ffff_ffff_fffe,
+    ),
+];
 
 /// 4 GB with a table of the first gigabyte alone, and a lock for each 512 MB.
 fn one_table() -> Result<Geometry, Fail> {
@@ -60,13 +138,10 @@ fn make(words: &mut PlainWords, act: Act) -> Option<u64> {
     }
 }
 
-/// Whether a load answered a word that is no descriptor.
-fn is_unreadable(act: Act, old: u64) -> bool
-    ensures { result ≡ false → (place : ℕ) → act ≡ Act.Load place → IsTrue (is_some (l1_entry old)) }
-{
-    match act {
-        Act::Load(_) => decode_l1(old).is_none(),
-        Act::Store(..) | Act::Or(..) | Act::And(..) => false,
+/// Writes these words at these places.
+fn set(words: &mut PlainWords, values: &[(usize, u64)]) {
+    for (place, value) in values {
+        make(words, Act::Store(*place, *value));
     }
 }
 
@@ -74,11 +149,12 @@ fn is_unreadable(act: Act, old: u64) -> bool
 fn step(agent: &mut Agent, words: &mut PlainWords) -> Option<(Act, u64)> {
     let act = agent.next()?;
     let old = make(words, act)?;
-    if is_unreadable(act, old) {
-        return None;
+    if agent.may_take(old) {
+        agent.took(old);
+        Some((act, old))
+    } else {
+        None
     }
-    agent.took(old);
-    Some((act, old))
 }
 
 #[test]
@@ -152,14 +228,76 @@ fn an_agent_waits_for_a_lock_that_is_held(rt: HostRuntime) -> Result<(), Fail> {
 }
 
 #[test]
-fn a_call_that_finds_the_needed_gpi_releases_its_lock_and_stops(
-    rt: HostRuntime,
-) -> Result<(), Fail> {
+fn a_delegate_changes_its_granule_once(rt: HostRuntime) -> Result<(), Fail> {
     let mut words = started(rt.alloc(), NON_SECURE)?;
-    let mut agent = Agent::new(rt.alloc(), one_table()?, vec![in rt.alloc(); DELEGATE]?)?;
-    for (act, old) in [(LOCK, 0), (LOOK, NON_SECURE), (UNLOCK, 1)] {
+    set(&mut words, INSIDE_GENERATIONS.as_slice());
+    let tasks = vec![in rt.alloc(); Task::Delegate(INSIDE, Source::Realm)]?;
+    let mut agent = Agent::new(rt.alloc(), one_table()?, tasks)?;
+    for (act, old) in DELEGATE_INSIDE {
         assert_eq!(rt; step(&mut agent, &mut words), Some((act, old)));
     }
+    let told = Generations {
+        two: 0x7fff_ffff_ffff_fffe,
+        thirty_two: 0x7fff_ffff_ffff_fffe,
+        five_twelve: 501,
+    };
+    assert_eq!(rt; agent.answers(), [Answer::Done(told)].as_slice());
+    assert_eq!(rt; agent.next(), None);
+    Ok(())
+}
+
+#[test]
+fn an_undelegate_changes_its_granule_twice(rt: HostRuntime) -> Result<(), Fail> {
+    let mut words = started(rt.alloc(), SECURE)?;
+    set(&mut words, INSIDE_GENERATIONS.as_slice());
+    let tasks = vec![in rt.alloc(); Task::Undelegate(INSIDE, Source::Secure)]?;
+    let mut agent = Agent::new(rt.alloc(), one_table()?, tasks)?;
+    for (act, old) in UNDELEGATE_INSIDE {
+        assert_eq!(rt; step(&mut agent, &mut words), Some((act, old)));
+    }
+    let told = Generations {
+        two: 0x7fff_ffff_ffff_ffff,
+        thirty_two: 0x7fff_ffff_ffff_ffff,
+        five_twelve: 502,
+    };
+    assert_eq!(rt; agent.answers(), [Answer::Done(told)].as_slice());
+    assert_eq!(rt; agent.next(), None);
+    Ok(())
+}
+
+#[test]
+fn a_worn_generation_is_told_with_its_first_size(rt: HostRuntime) -> Result<(), Fail> {
+    for (generations, size, value) in WORN {
+        let mut words = started(rt.alloc(), NON_SECURE)?;
+        set(&mut words, generations.as_slice());
+        let mut agent = Agent::new(rt.alloc(), one_table()?, vec![in rt.alloc(); DELEGATE]?)?;
+        for (act, old) in [(LOCK, 0), (LOOK, NON_SECURE)] {
+            assert_eq!(rt; step(&mut agent, &mut words), Some((act, old)));
+        }
+        for (place, old) in generations {
+            assert_eq!(rt; step(&mut agent, &mut words), Some((Act::Load(place), old)));
+        }
+        assert_eq!(rt; step(&mut agent, &mut words), Some((UNLOCK, 1)));
+        assert_eq!(rt; agent.answers(), [Answer::Worn(size, value)].as_slice());
+    }
+    refused_calls_write_nothing();
+    Ok(())
+}
+
+#[test]
+fn a_call_that_finds_a_contiguous_entry_releases_its_lock_and_stops(
+    rt: HostRuntime,
+) -> Result<(), Fail> {
+    // An entry of 2 MB, Non-secure.
+    let mut words = started(rt.alloc(), 0x191)?;
+    let mut agent = Agent::new(rt.alloc(), one_table()?, vec![in rt.alloc(); DELEGATE]?)?;
+    for (act, old) in [(LOCK, 0), (LOOK, 0x191)] {
+        assert_eq!(rt; step(&mut agent, &mut words), Some((act, old)));
+    }
+    for (act, old) in READ {
+        assert_eq!(rt; step(&mut agent, &mut words), Some((act, old)));
+    }
+    assert_eq!(rt; step(&mut agent, &mut words), Some((UNLOCK, 1)));
     assert_eq!(rt; agent.next(), None);
     assert_eq!(rt; agent.left(), 1);
     assert!(rt; agent.answers().is_empty());

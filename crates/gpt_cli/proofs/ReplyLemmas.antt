@@ -3,8 +3,6 @@ use Rattle.std.proofs.Common.{◌≡◌, ◌≢◌, ℕ, ◌≤◌, ◌<◌, Boo
 use Rattle.std.specs.Prelude.{MatchOption, MatchBool}
 use Rattle.std.proofs.lemmas.Bool.{cases_Bool, le-ltb}
 use Rattle.gpt_stream.specs.declared.input.TheConstants.{INPUT_LIMIT}
-use Rattle.gpt_descriptors.specs.Sizes.{SetupData}
-use Rattle.region_plan.specs.declared.region.Region.{Region}
 use Rattle.region_plan.specs.declared.refusing.PlanError.{PlanError}
 use Rattle.scenario_text.specs.declared.scenario.Scenario.{Scenario}
 use Rattle.scenario_text.specs.declared.scenario.Fault.{Fault}
@@ -12,44 +10,73 @@ use Rattle.scenario_text.specs.Spelling.{WellFormed, text_of}
 use Rattle.scenario_text.specs.Faults.{first_bad}
 use Rattle.region_plan.specs.Refusals.{refusal}
 use Rattle.table_build.specs.Built.{is_bad_base}
+use Rattle.history.specs.declared.outcome.Outcome.{Outcome}
+use Rattle.core_machine.specs.Play.{played, outcome_of}
+use Rattle.gpt_cli.specs.declared.command.Command.{Command}
+use Rattle.gpt_cli.specs.declared.command.Command.TheVariants as command
 use Rattle.gpt_cli.specs.declared.reply.Reply.{Reply}
 use Rattle.gpt_cli.specs.Texts.{line_text, too_long_text}
-use Rattle.gpt_cli.specs.Replies.{refused, plan_reply, planned_reply, tables_reply, RepliesToText, Replies}
-use Rattle.gpt_cli.specs.Runs.{Delivers}
+use Rattle.gpt_cli.specs.Upheld.{Upholds}
+use Rattle.gpt_cli.specs.Replies.{refused, has_left, played_reply, accepted_reply, plan_reply, planned_reply, reply_of, RepliesToText, Replies}
 
 -- the reply to a text that has a scenario
-pub replies_scenario : (bytes : List ℕ) (s : Scenario) (reply : Reply) → length bytes ≤ INPUT_LIMIT → first_bad bytes ≡ None
-    → WellFormed s → bytes ≡ text_of s → reply ≡ tables_reply s → Replies bytes reply
-replies_scenario bytes s reply short good formed spelled replied =
-    rw (le-ltb INPUT_LIMIT (length bytes) short, good) (s, formed, spelled, replied)
+pub replies_scenario : (command : Command) (bytes : List ℕ) (s : Scenario) (reply : Reply) → length bytes ≤ INPUT_LIMIT → first_bad bytes ≡ None
+    → WellFormed s → bytes ≡ text_of s → reply ≡ reply_of command s → Upholds command s → Replies command bytes reply
+replies_scenario command bytes s reply short good formed spelled replied upholds =
+    rw (le-ltb INPUT_LIMIT (length bytes) short, good) (s, formed, spelled, replied, upholds)
 
 -- ---- statuses
 
-plan_status : (s : SetupData) (regions : List Region) → (plan_reply s regions).status < 2
-plan_status s regions = elim (cases_Bool (is_bad_base s regions)) [ inl bad ↦ rw bad (omega arith) | inr good ↦ rw good (omega arith) ]
+-- the status of a fault of reading, and of want of memory, is no reply's
+abbrev pub IsTold : ℕ → Type 0
+IsTold n = (n ≢ 3) × (n ≢ 5)
 
-planned_status : (s : SetupData) (regions : List Region) (o : Option PlanError) → (planned_reply s regions o).status < 2
-planned_status s regions (Some e) = omega arith
-planned_status s regions None = plan_status s regions
+low_told : (n : ℕ) → n < 2 → IsTold n
+low_told n low = ((λ e. absurd (omega (arith, e, low))), (λ e. absurd (omega (arith, e, low))))
 
-scenario_status : (s : Scenario) → (tables_reply s).status < 2
-unfolding tables_reply
-scenario_status s = planned_status s.setup s.regions (refusal s.setup s.regions)
+six_told : IsTold 6
+six_told = ((λ e. absurd (omega (arith, e))), (λ e. absurd (omega (arith, e))))
 
-text_status : (bad : Option (ℕ × Fault)) (bytes : List ℕ) (reply : Reply)
-    → MatchOption bad ((s : Scenario) × WellFormed s × (bytes ≡ text_of s) × (reply ≡ tables_reply s)) (λ b. reply ≡ refused (line_text b.0 b.1)) → reply.status < 2
-text_status (Some bad) bytes reply replied = subst (λ (r : Reply). r.status < 2) (sym replied) (omega arith)
-text_status None bytes reply replied = subst (λ (r : Reply). r.status < 2) (sym replied.3) (scenario_status replied.0)
+played_status : (s : Scenario) (o : Outcome) → IsTold (played_reply s o).status
+played_status s o =
+    elim (cases_Bool (has_left s.scripts o.answers)) [
+      | inl left ↦ rw left six_told
+      | inr none ↦ rw none (low_told 0 (omega arith))
+    ]
 
-any_status : (long : Bool) (bytes : List ℕ) (reply : Reply) → MatchBool long (reply ≡ refused too_long_text) (RepliesToText bytes reply) → reply.status < 2
-any_status true bytes reply replied = subst (λ (r : Reply). r.status < 2) (sym replied) (omega arith)
-any_status false bytes reply replied = text_status (first_bad bytes) bytes reply replied
+accepted_status : (command : Command) (s : Scenario) → IsTold (accepted_reply command s).status
+accepted_status command.Tables s = low_told 0 (omega arith)
+accepted_status command.Play s = played_status s (outcome_of (played s))
 
-pub replies_status : (bytes : List ℕ) (reply : Reply) → Replies bytes reply → reply.status < 2
-replies_status bytes reply replied = any_status (ltb INPUT_LIMIT (length bytes)) bytes reply replied
+plan_status : (command : Command) (s : Scenario) → IsTold (plan_reply command s).status
+plan_status command s =
+    elim (cases_Bool (is_bad_base s.setup s.regions)) [
+      | inl bad ↦ rw bad (low_told 1 (omega arith))
+      | inr good ↦ rw good (accepted_status command s)
+    ]
 
--- what is sent is never answered as a fault of reading, nor as want of memory
-pub sent_status : (before after : Option (List ℕ)) (m n : ℕ) (reply : Reply) (status : ℕ) → Delivers before after m n reply status → reply.status < 2
-    → (status ≢ 3) × (status ≢ 5)
-sent_status before after m n reply status (inl whole) low = ((λ e. absurd (omega (arith, whole.0, low))), (λ e. absurd (omega (arith, whole.0, low))))
-sent_status before after m n reply status (inr cut) low = ((λ e. absurd (omega (arith, cut.0))), (λ e. absurd (omega (arith, cut.0))))
+planned_status : (command : Command) (s : Scenario) (o : Option PlanError) → IsTold (planned_reply command s o).status
+planned_status command s (Some e) = low_told 1 (omega arith)
+planned_status command s None = plan_status command s
+
+scenario_status : (command : Command) (s : Scenario) → IsTold (reply_of command s).status
+unfolding reply_of
+scenario_status command s = planned_status command s (refusal s.setup s.regions)
+
+text_status : (command : Command) (bad : Option (ℕ × Fault)) (bytes : List ℕ) (reply : Reply)
+    → MatchOption bad ((s : Scenario) × WellFormed s × (bytes ≡ text_of s) × (reply ≡ reply_of command s) × Upholds command s) (λ b. reply ≡ refused (line_text b.0 b.1)) → IsTold reply.status
+text_status command (Some bad) bytes reply replied = subst (λ (r : Reply). IsTold r.status) (sym replied) (low_told 1 (omega arith))
+text_status command None bytes reply replied = subst (λ (r : Reply). IsTold r.status) (sym replied.3) (scenario_status command replied.0)
+
+any_status : (command : Command) (long : Bool) (bytes : List ℕ) (reply : Reply) → MatchBool long (reply ≡ refused too_long_text) (RepliesToText command bytes reply) → IsTold reply.status
+any_status command true bytes reply replied = subst (λ (r : Reply). IsTold r.status) (sym replied) (low_told 1 (omega arith))
+any_status command false bytes reply replied = text_status command (first_bad bytes) bytes reply replied
+
+pub replies_status : (command : Command) (bytes : List ℕ) (reply : Reply) → Replies command bytes reply → IsTold reply.status
+replies_status command bytes reply replied = any_status command (ltb INPUT_LIMIT (length bytes)) bytes reply replied
+
+-- words are one command alone
+pub replies_same : (words : Option Command) (a b : Command) (bytes : List ℕ) (reply : Reply) → words ≡ Some a → words ≡ Some b → Replies a bytes reply → Replies b bytes reply
+replies_same words a b bytes reply first second replied =
+    let same : a ≡ b = cc in
+    subst (λ (k : Command). Replies k bytes reply) same replied

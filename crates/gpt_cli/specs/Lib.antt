@@ -1,3 +1,4 @@
 pub mod Texts
+pub mod Upheld
 pub mod Replies
 pub mod Runs

@@ -1,16 +1,23 @@
 -- What the program replies to an input: a status, and the text that it writes.
-use Rattle.std.specs.Prelude.{◌≡◌, ℕ, List, length, Option, Some, None, MatchOption, MatchBool, nat_lt, if◌then◌else◌}
+use Rattle.std.specs.Prelude.{◌≡◌, ℕ, Bool, false, ◌||◌, List, [], ◌∷◌, length, Option, Some, None, MatchOption, MatchBool, nat_lt, if◌then◌else◌}
 use Rattle.scenario_text.specs.declared.scenario.Scenario.{Scenario}
+use Rattle.scenario_text.specs.declared.scenario.Script.{Script}
 use Rattle.scenario_text.specs.Spelling.{WellFormed, text_of}
 use Rattle.scenario_text.specs.Faults.{first_bad}
-use Rattle.gpt_descriptors.specs.Sizes.{SetupData}
-use Rattle.region_plan.specs.declared.region.Region.{Region}
 use Rattle.region_plan.specs.declared.refusing.PlanError.{PlanError}
 use Rattle.region_plan.specs.Refusals.{refusal}
 use Rattle.table_build.specs.Built.{tables_of, is_bad_base}
 use Rattle.report_text.specs.TablesText.{report_of_tables}
+use Rattle.report_text.specs.declared.run.Mode.TheVariants as mode
+use Rattle.report_text.specs.RunText.{script_calls, report_of_run}
+use Rattle.history.specs.declared.call.Answer.{Answer}
+use Rattle.history.specs.declared.outcome.Outcome.{Outcome}
+use Rattle.core_machine.specs.Play.{played, outcome_of}
 use Rattle.gpt_stream.specs.declared.input.TheConstants.{INPUT_LIMIT}
+use Rattle.gpt_cli.specs.declared.command.Command.{Command}
+use Rattle.gpt_cli.specs.declared.command.Command.TheVariants as command
 use Rattle.gpt_cli.specs.declared.reply.Reply.{Reply}
+use Rattle.gpt_cli.specs.Upheld.{Upholds}
 use Rattle.gpt_cli.specs.Texts.{usage_text, too_long_text, line_text, plan_text, base_text}
 
 abbrev pub done : List ℕ → Reply
@@ -22,28 +29,52 @@ refused text = record { status = 1; text = text }
 abbrev pub usage : Reply
 usage = record { status = 2; text = usage_text }
 
--- the reply to regions that no rule refuses
-abbrev pub plan_reply : SetupData → List Region → Reply
-plan_reply s regions =
-    if is_bad_base s regions then refused (base_text s.base) else done (report_of_tables (tables_of s regions))
+-- ---- the report of a run
 
-abbrev pub planned_reply : SetupData → List Region → Option PlanError → Reply
-planned_reply s regions (Some e) = refused (plan_text e)
-planned_reply s regions None = plan_reply s regions
+-- a call has no answer
+abbrev pub has_left : List Script → List (List Answer) → Bool
+has_left [] answers = false
+has_left (s ∷ scripts) [] = false
+has_left (s ∷ scripts) (own ∷ answers) = nat_lt (length own) (length (script_calls s)) || has_left scripts answers
 
--- The reply to a scenario: the rule that refuses its regions, or its bad base, or the report of the
--- canonical tables of its region map.
-unfoldable pub tables_reply : Scenario → Reply
-tables_reply s = planned_reply s.setup s.regions (refusal s.setup s.regions)
+-- The report of what a run left, with status 6 exactly where a call has no answer.
+abbrev pub played_reply : Scenario → Outcome → Reply
+played_reply s o = record {
+  status = if has_left s.scripts o.answers then 6 else 0;
+  text = report_of_run mode.Play s o;
+}
+
+-- ---- the reply to a scenario
+
+-- where its regions and its base are accepted
+abbrev pub accepted_reply : Command → Scenario → Reply
+accepted_reply command.Tables s = done (report_of_tables (tables_of s.setup s.regions))
+accepted_reply command.Play s = played_reply s (outcome_of (played s))
+
+-- where no rule refuses its regions
+abbrev pub plan_reply : Command → Scenario → Reply
+plan_reply command s =
+    if is_bad_base s.setup s.regions then refused (base_text s.setup.base) else accepted_reply command s
+
+abbrev pub planned_reply : Command → Scenario → Option PlanError → Reply
+planned_reply command s (Some e) = refused (plan_text e)
+planned_reply command s None = plan_reply command s
+
+-- The rule that refuses its regions, or its bad base, or what the command reports: for `tables` the
+-- canonical tables of its region map, for `play` what the turns of its schedule leave.
+unfoldable pub reply_of : Command → Scenario → Reply
+reply_of command s = planned_reply command s (refusal s.setup s.regions)
+
+-- ---- the reply to an input
 
 -- The reply to a text: its first bad line, or what its scenario gives.
-abbrev pub RepliesToText : List ℕ → Reply → Type 0
-RepliesToText bytes reply =
+abbrev pub RepliesToText : Command → List ℕ → Reply → Type 0
+RepliesToText command bytes reply =
     MatchOption (first_bad bytes)
-    ((s : Scenario) × WellFormed s × (bytes ≡ text_of s) × (reply ≡ tables_reply s))
+    ((s : Scenario) × WellFormed s × (bytes ≡ text_of s) × (reply ≡ reply_of command s) × Upholds command s)
     (λ bad. reply ≡ refused (line_text bad.0 bad.1))
 
 -- The reply to the bytes that were read.
-abbrev pub Replies : List ℕ → Reply → Type 0
-Replies bytes reply =
-    MatchBool (nat_lt INPUT_LIMIT (length bytes)) (reply ≡ refused too_long_text) (RepliesToText bytes reply)
+abbrev pub Replies : Command → List ℕ → Reply → Type 0
+Replies command bytes reply =
+    MatchBool (nat_lt INPUT_LIMIT (length bytes)) (reply ≡ refused too_long_text) (RepliesToText command bytes reply)

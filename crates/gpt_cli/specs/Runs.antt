@@ -2,11 +2,17 @@
 use Rattle.std.specs.Prelude.{◌≡◌, ℕ, ◌<◌, ◌⊎◌, List, [], ◌∷◌, length, take, Option, codes}
 use Rattle.std.specs.Io.KnownBytes.{Appends}
 use Rattle.gpt_io.specs.Counts.{Rose}
+use Rattle.gpt_cli.specs.declared.command.Command.{Command}
+use Rattle.gpt_cli.specs.declared.command.Command.TheVariants as command
 use Rattle.gpt_cli.specs.declared.reply.Reply.{Reply}
 
 -- the words that are a command
+abbrev pub IsCommandOf : List (List ℕ) → Command → Type 0
+IsCommandOf words command.Tables = words ≡ codes "tables" ∷ []
+IsCommandOf words command.Play = words ≡ codes "play" ∷ []
+
 abbrev pub IsCommand : List (List ℕ) → Type 0
-IsCommand words = words ≡ codes "tables" ∷ []
+IsCommand words = (command : Command) × IsCommandOf words command
 
 -- The reply was written whole, or a write failed, the status is 4 and a proper front of the text was written.
 abbrev pub Delivers : Option (List ℕ) → Option (List ℕ) → ℕ → ℕ → Reply → ℕ → Type 0

@@ -1,6 +1,8 @@
 //! The program: reads a scenario from standard input and writes its report to standard output.
 #![tactic(auto)]
 
+mod accepted;
+mod command;
 mod program;
 mod refusal;
 mod reply;

@@ -17,6 +17,23 @@ region 0x0 0x40000000 granule nonsecure\nend\n";
 
 const BASE_LINE: &[u8] = b"base: 0x80010000\n";
 
+/// 4 GB, of which the first gigabyte is Secure, by granules, and an agent whose four calls are refused.
+const REFUSED: &[u8] =
+    b"gpt 1\nspace 4\nmax 0\nlocks 1\nfirst 0\nring 8\ntables 1\nbase 0x80000000\n\
+region 0x0 0x40000000 granule secure\nagent\ndelegate 0x200800 realm\ndelegate 0x40000000 realm\n\
+delegate 0x0 realm\nundelegate 0x0 realm\nturn 0 6\nend\n";
+
+const PLAYED: &[u8] = b"report 1 play\n0.0 inval\n0.1 inval\n0.2 perm secure\n0.3 perm secure\n\
+l0 0 1 0x80000003\nl0 1 3 0xf1\nl1 0 0 16384 0x8888888888888888\nend\n";
+
+/// The same with two turns fewer: its last call has taken its lock.
+const CUT: &[u8] = b"gpt 1\nspace 4\nmax 0\nlocks 1\nfirst 0\nring 8\ntables 1\nbase 0x80000000\n\
+region 0x0 0x40000000 granule secure\nagent\ndelegate 0x200800 realm\ndelegate 0x40000000 realm\n\
+delegate 0x0 realm\nundelegate 0x0 realm\nturn 0 4\nend\n";
+
+const LEFT: &[u8] = b"report 1 play\n0.0 inval\n0.1 inval\n0.2 perm secure\nleft 0 1\nheld 0\n\
+l0 0 1 0x80000003\nl0 1 3 0xf1\nl1 0 0 16384 0x8888888888888888\nend\n";
+
 const USAGE: &[u8] = b"usage: gpt_cli tables | play | race | load N\n";
 
 /// A source of this text whose read of this number fails, counted from 1; for 0 none fails.
@@ -44,6 +61,18 @@ fn a_report_is_written_whole(rt: HostRuntime) -> Result<(), Fail> {
     assert_eq!(rt; sink.taken(), REPORT);
     assert_eq!(rt; source.reads(), 2);
     assert_eq!(rt; sink.writes(), 7);
+    Ok(())
+}
+
+#[test]
+fn a_played_schedule_is_reported(rt: HostRuntime) -> Result<(), Fail> {
+    let alloc = rt.alloc();
+    for (input, text, want) in [(REFUSED, PLAYED, 0u8), (CUT, LEFT, 6)] {
+        let mut source = source(alloc, input, 0)?;
+        let mut sink = sink(alloc, text.len(), 0)?;
+        assert_eq!(rt; status(alloc, &["play"], &mut source, &mut sink), want);
+        assert_eq!(rt; sink.taken(), text);
+    }
     Ok(())
 }
 
@@ -113,7 +142,7 @@ fn words_that_are_no_command_read_nothing(rt: HostRuntime) -> Result<(), Fail> {
         &[],
         &["table"],
         &["tables", "tables"],
-        &["play"],
+        &["play", "0"],
         &["race"],
         &["load", "01"],
     ];

@@ -12,8 +12,6 @@ mod level0;
 mod places;
 mod setting;
 mod size;
-#[cfg(test)]
-mod tests;
 
 pub use canonical::canonical_words_mean_their_map;
 pub use entry::{L0Entry, L1Entry, decode_l0, decode_l1, encode_l0, encode_l1, gpi_at, reach_of};

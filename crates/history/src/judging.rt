@@ -20,7 +20,7 @@ pub fn granule_of(task: Task) -> Option<u64>
 }
 
 /// The GPI that a transition needs: Non-secure for a delegate, the source's own for an undelegate.
-fn needed(task: Task) -> Option<Gpi>
+pub fn needed(task: Task) -> Option<Gpi>
     ensures { result ≡ needed task }
 {
     match task {

@@ -8,13 +8,12 @@ mod judging;
 mod law;
 mod outcome;
 mod replay;
-#[cfg(test)]
-mod tests;
 
 pub use call::{Access, Answer, Task, Via};
 pub use entry::Entry;
 pub use gpi_values::{Gpi, Source, Space};
 pub use gpt_descriptors::{Generations, Geometry, Reach, Size};
+pub use judging::needed;
 pub use law::settled_means_final;
 pub use outcome::Outcome;
 pub use region_plan::RunMap;

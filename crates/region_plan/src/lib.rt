@@ -6,8 +6,6 @@ mod planning;
 mod refusing;
 mod region;
 mod run_map;
-#[cfg(test)]
-mod tests;
 
 pub use gpt_descriptors::{Gpi, MaxBlock, Setup};
 pub use planning::Plan;

@@ -33,7 +33,7 @@ from_slice_get : {X : Type 0} (xs : List X) (k : ℕ) (x : X) → slice_get xs k
 from_slice_get {X = X} xs k x e =
     drop_more xs k x (slice_get_within xs k x e) ∙ ap (λ (y : X). y ∷ drop (k + 1) xs) (get_or_from_slice_get xs k x x e)
 
-from_get_or : {X : Type 0} (xs : List X) (k : ℕ) (x : X) → k < length xs → x ≡ get_or xs k x → drop k xs ≡ x ∷ drop (k + 1) xs
+pub from_get_or : {X : Type 0} (xs : List X) (k : ℕ) (x : X) → k < length xs → x ≡ get_or xs k x → drop k xs ≡ x ∷ drop (k + 1) xs
 from_get_or {X = X} xs k x lt e = drop_more xs k x lt ∙ ap (λ (y : X). y ∷ drop (k + 1) xs) (sym e)
 
 -- an access doesn't come through the monitor

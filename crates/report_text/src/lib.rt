@@ -7,9 +7,8 @@ mod level;
 mod run;
 mod state;
 mod tables;
-#[cfg(test)]
-mod tests;
 
+pub use callers::call_count;
 pub use level::Level;
 pub use run::{Mode, caller_lines, run_report, state_lines};
 pub use tables::tables_report;

@@ -22,7 +22,7 @@ use Rattle.scenario_text.specs.Spelling.{script_lines, lines_of, IsRegion, IsAsk
 use Rattle.scenario_text.specs.Faults.{may_stand, start}
 use Rattle.scenario_text.specs.Reading.{InLimits, Next, word_for, after}
 use Rattle.scenario_text.specs.Drafts.{DraftData, nothing_read, closed, with_ask, with_look, taken, scenario_of}
-use Rattle.scenario_text.proofs.Drafting.{IsOpen, IsBody, Formed, drafted, step_lines, step_formed, step_limits, ended_lines, ended_formed}
+use Rattle.scenario_text.proofs.Drafting.{IsOpen, IsBody, body_open, Formed, drafted, step_lines, step_formed, step_limits, ended_lines, ended_formed}
 
 -- each line may stand behind the ones before it, and the last one is the end line
 abbrev pub Accepts : Standing → List Line → Type 0
@@ -115,14 +115,6 @@ ask_may (ask.Delegate pa s) = refl
 ask_may (ask.Undelegate pa s) = refl
 ask_may (ask.SmcDelegate pa w) = refl
 ask_may (ask.SmcUndelegate pa w) = refl
-
-body_open : (p : Place) → IsOpen p → IsBody p
-body_open stands.Regions o = tt
-body_open stands.InAgent o = tt
-body_open stands.InCpu o = tt
-body_open stands.Schedule o = absurd o
-body_open stands.Ended o = absurd o
-body_open (stands.Head k) o = absurd o
 
 regions_accepted : (g c t : ℕ) (rs : List Region) (rest : List Line) → AllByRecursion IsRegion rs → Accepts (at stands.Regions g c t) rest → Accepts (at stands.Regions g c t) (map says.OneRegion rs ++ rest)
 regions_accepted g c t [] rest good accepts = accepts

@@ -171,13 +171,13 @@ at_end stands.InCpu e = tt
 at_end stands.Schedule e = tt
 at_end p e = absurd cc
 
-body_if_open : (p : Place) → IsOpen p → IsBody p
-body_if_open stands.Regions o = tt
-body_if_open stands.InAgent o = tt
-body_if_open stands.InCpu o = tt
-body_if_open stands.Schedule o = absurd o
-body_if_open stands.Ended o = absurd o
-body_if_open (stands.Head k) o = absurd o
+pub body_open : (p : Place) → IsOpen p → IsBody p
+body_open stands.Regions o = tt
+body_open stands.InAgent o = tt
+body_open stands.InCpu o = tt
+body_open stands.Schedule o = absurd o
+body_open stands.Ended o = absurd o
+body_open (stands.Head k) o = absurd o
 
 -- ---- what these places say
 
@@ -303,12 +303,12 @@ step_lines st d says.NewAgent nx f =
     let opens = at_agent st.place nx.stands in
     scripts_lines d.setup d.regions (closed d.scripts d.opened) (closed d.scripts d.opened ++ script.Agent [] ∷ []) says.NewAgent d.schedule
     (section_begins (closed d.scripts d.opened) (script.Agent []) says.NewAgent refl) (no_slots st.place d.regions d.scripts d.opened d.schedule opens f.parts)
-    ∙ ap (λ (z : List Line). z ++ says.NewAgent ∷ []) (sym (lines_in_body st.place d.setup d.regions (closed d.scripts d.opened) d.schedule (body_if_open st.place opens)))
+    ∙ ap (λ (z : List Line). z ++ says.NewAgent ∷ []) (sym (lines_in_body st.place d.setup d.regions (closed d.scripts d.opened) d.schedule (body_open st.place opens)))
 step_lines st d says.NewCpu nx f =
     let opens = at_cpu st.place nx.stands in
     scripts_lines d.setup d.regions (closed d.scripts d.opened) (closed d.scripts d.opened ++ script.Cpu [] ∷ []) says.NewCpu d.schedule
     (section_begins (closed d.scripts d.opened) (script.Cpu []) says.NewCpu refl) (no_slots st.place d.regions d.scripts d.opened d.schedule opens f.parts)
-    ∙ ap (λ (z : List Line). z ++ says.NewCpu ∷ []) (sym (lines_in_body st.place d.setup d.regions (closed d.scripts d.opened) d.schedule (body_if_open st.place opens)))
+    ∙ ap (λ (z : List Line). z ++ says.NewCpu ∷ []) (sym (lines_in_body st.place d.setup d.regions (closed d.scripts d.opened) d.schedule (body_open st.place opens)))
 step_lines st d (says.OneAsk a) nx f =
     let e = at_ask a st.place nx.stands in
     let parts = parts_at st.place stands.InAgent d e f.parts in
@@ -428,7 +428,7 @@ step_formed st d says.NewAgent nx f =
     record {
       setup = f.setup;
       base = f.base;
-      spaced = spaced_in_body st.place st.gigabytes d.setup.gigabytes (body_if_open st.place opens) f.spaced;
+      spaced = spaced_in_body st.place st.gigabytes d.setup.gigabytes (body_open st.place opens) f.spaced;
       regions = f.regions;
       scripts = all_push (IsScript d.setup) (closed d.scripts d.opened) (script.Agent []) f.scripts tt;
       callers = ap (λ (n : ℕ). n + 1) f.callers ∙ sym (length_push (closed d.scripts d.opened) (script.Agent []));
@@ -442,7 +442,7 @@ step_formed st d says.NewCpu nx f =
     record {
       setup = f.setup;
       base = f.base;
-      spaced = spaced_in_body st.place st.gigabytes d.setup.gigabytes (body_if_open st.place opens) f.spaced;
+      spaced = spaced_in_body st.place st.gigabytes d.setup.gigabytes (body_open st.place opens) f.spaced;
       regions = f.regions;
       scripts = all_push (IsScript d.setup) (closed d.scripts d.opened) (script.Cpu []) f.scripts tt;
       callers = ap (λ (n : ℕ). n + 1) f.callers ∙ sym (length_push (closed d.scripts d.opened) (script.Cpu []));

@@ -19,7 +19,7 @@ use Rattle.scenario_text.specs.Numerals.{count_in}
 use Rattle.scenario_text.specs.Spelling.{kind_name, caller_limit, turn_limit, turns_of}
 use Rattle.scenario_text.specs.Faults.{Count, Address, Name, any_number, field_fault, number_of, is_turns, is_caller, kinds_of, line_turns, word_of, may_stand, known_word_fault, line_fault, is_ended}
 use Rattle.scenario_text.specs.Reading.{◌>>=◌, verb_name, checked, two_of, count_field, address_field, turns_field, gpi_field, space_field, source_field, world_field, kind_field, verb_field, all_gpis, all_spaces, all_sources, all_worlds, all_kinds, all_verbs, one_count, max_with, monitor_call, read_version, read_space, read_max, read_locks, read_first, read_ring, read_tables, read_base, read_region, read_bare, read_caller, read_delegate, read_undelegate, read_smc, read_look, read_slot, read_turn, read_round, read_word, read_known, read_line, InLimits}
-use Rattle.scenario_text.proofs.Steps.{chosen}
+use Rattle.scenario_text.proofs.Steps.{chosen, done, ok_same}
 use Rattle.std.proofs.lemmas.Bool.{cases_Bool, le-ltb}
 use Rattle.scenario_text.proofs.FieldReads.{fault_in, or_none, none_fields, one_fields, two_fields, three_fields, four_fields, fault_bind, address_fault, count_fault, address_range_fault, turns_fault, name_fault, fields_told, one_count_told}
 
@@ -33,12 +33,6 @@ or_again_two : (a b t : Option Fault) → option_or a (option_or b t) ≡ option
 or_again_two None None t = refl
 or_again_two None (Some g) t = refl
 or_again_two (Some f) b t = refl
-
-abbrev done : {A : Type 0} → A → Result A Fault
-done x = Ok x
-
-ok_same : {A : Type 0} (x y : A) → done x ≡ done y → x ≡ y
-ok_same x y e = cc
 
 same_faults : {A B D : Type 0} (r : Result A Fault) (f : A → Result B Fault) (g : A → Result D Fault) → ((x : A) → fault_in (f x) ≡ fault_in (g x)) → fault_in (r >>= f) ≡ fault_in (r >>= g)
 same_faults (Ok x) f g h = h x

@@ -29,17 +29,11 @@ use Rattle.scenario_text.specs.Numerals.{count_in, address_in}
 use Rattle.scenario_text.specs.Spelling.{count, address, max_count, kind_name, fields_of, caller_limit, turn_limit, turns_of}
 use Rattle.scenario_text.specs.Faults.{is_turns, word_of, word_text, all_words, may_stand, is_ended}
 use Rattle.scenario_text.specs.Reading.{◌>>=◌, named, verb_name, checked, none_of, one_of, two_of, three_of, four_of, count_field, address_field, turns_field, gpi_field, space_field, source_field, world_field, kind_field, verb_field, all_gpis, all_spaces, all_sources, all_worlds, all_kinds, all_verbs, one_count, max_with, monitor_call, read_version, read_space, read_max, read_locks, read_first, read_ring, read_tables, read_base, read_region, read_bare, read_caller, read_delegate, read_undelegate, read_smc, read_look, read_slot, read_turn, read_round, read_word, read_known, read_fields, read_line, InRange, Next, word_for}
-use Rattle.scenario_text.proofs.Steps.{chosen, bind_ok}
+use Rattle.scenario_text.proofs.Steps.{chosen, bind_ok, done, ok_same}
 use Rattle.scenario_text.proofs.Named.{named_some}
 use Rattle.std.proofs.lemmas.Bool.{eqb-true, ltb-true, ltb-false, leb-true, leb-false, or_cases, and_parts}
 use Rattle.scenario_text.proofs.NumeralLemmas.{count_read, address_read}
 use Rattle.scenario_text.proofs.FieldReads.{none_fields, one_fields, two_fields, three_fields, four_fields}
-
-abbrev done : {A : Type 0} → A → Result A Fault
-done x = Ok x
-
-ok_same : {A : Type 0} (x y : A) → done x ≡ done y → x ≡ y
-ok_same x y e = cc
 
 -- ---- fields that were taken
 

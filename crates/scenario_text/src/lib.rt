@@ -10,8 +10,6 @@ mod line;
 mod numeral;
 mod parsing;
 mod printing;
-#[cfg(test)]
-mod printing_tests;
 mod reading;
 mod scenario;
 mod standing;
@@ -27,6 +25,3 @@ pub use printing::print;
 pub use region_plan::{Kind, Region};
 pub use scenario::{Ask, Fault, Look, Scenario, Script, Slot, TextError};
 pub use word::Word;
-
-#[cfg(test)]
-mod tests;

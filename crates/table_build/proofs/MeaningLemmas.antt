@@ -327,7 +327,7 @@ table_with s regions (suc n) i word e =
     ]
 
 -- blocks of every size divide a table
-table_blocks : (s : SetupData) (z : Size) → (c : ℕ) × (table_words s ≡ c * words_of s z)
+pub table_blocks : (s : SetupData) (z : Size) → (c : ℕ) × (table_words s ≡ c * words_of s z)
 table_blocks s size.FiveTwelve = (2, table_is s)
 table_blocks s size.ThirtyTwo = (32, omega (arith, table_is s, five_twelve_is s))
 table_blocks s size.Two = (512, omega (arith, table_is s, five_twelve_is s, thirty_two_is s))
@@ -336,7 +336,7 @@ in_row : (a c n x : ℕ) → 0 < n → (a * (c * n) + x) / n ≡ a * c + x / n
 in_row a c n x some = ap (λ (k : ℕ). (k + x) / n) (let turned : a * (c * n) ≡ a * c * n = omega arith in turned) ∙ mul-add-div_right some (a * c) x
 
 -- words of one block of n words stand in one table of c blocks, and in one block of it wherever the table stands
-one_block : (q c n i j : ℕ) → 0 < n → j / n ≡ i / n → (j / (c * n) ≡ i / (c * n)) × ((q * (c * n) + j % (c * n)) / n ≡ (q * (c * n) + i % (c * n)) / n)
+pub one_block : (q c n i j : ℕ) → 0 < n → j / n ≡ i / n → (j / (c * n) ≡ i / (c * n)) × ((q * (c * n) + j % (c * n)) / n ≡ (q * (c * n) + i % (c * n)) / n)
 one_block q c n i j some same =
     let turned : c * n ≡ n * c = mul_comm c n in
     let first : j / (c * n) ≡ j / n / c = ap (λ (k : ℕ). j / k) turned ∙ sym (div-div-eq-div-mul j n c) in

@@ -5,8 +5,6 @@ mod blocks;
 mod building;
 mod law;
 mod tables;
-#[cfg(test)]
-mod tests;
 
 pub use building::{BuildError, build};
 pub use law::built_tables_mean_the_map;

@@ -1,10 +1,13 @@
-use Rattle.std.proofs.Common.{◌≡◌, List, length, sym, ap, ◌∙◌, subst}
+use Rattle.std.proofs.Common.{◌≡◌, List, [], length, sym, ap, ◌∙◌, subst}
 use Rattle.std.specs.Prelude.{IfOk}
 use Rattle.std.specs.List.{All, flat_map}
 use Rattle.scenario_text.specs.declared.scenario.Slot.{Slot}
 use Rattle.core_machine.specs.Machine.{MachineData, StandsFor, after_turns}
 use Rattle.core_machine.specs.Play.{NamesCaller, slot_turns, first_map, played, played_history, outcome_of}
 use Rattle.core_machine.proofs.PlayLemmas.{names_at, played_is, played_stands, always}
+use Rattle.core_machine.specs.Run.{TellsRun}
+use Rattle.core_machine.proofs.RunLemmas.{run_told}
+use Rattle.core_machine.proofs.FitLemmas.{size_of, answers_of}
 use Rattle.core_machine.proofs.played.play.Goals as goal
 
 pub schedule-requires-clause-names : goal.schedule-requires-clause-names
@@ -19,7 +22,18 @@ returns-clause-trace c =
     (c.schedule.ensures ∙ ap (λ (slots : List Slot). after_turns c.in_ok-machine.machine (flat_map (slot_turns (length c.in_ok-machine.machine.callers)) slots)) c.as_slice.ensures))
     c.leave.ensures
 
-pub returns-clause-stands : goal.returns-clause-stands
-returns-clause-stands c =
-    always (StandsFor (first_map c.args.scenario.now) (played c.args.scenario.now) (played_history c.args.scenario.now)) c.leave.result
-    (played_stands c.args.scenario.now c.in_ok-machine.machine c.in_ok-machine.ensures.machine c.in_ok-machine.ensures.stands)
+pub returns-clause-tells : goal.returns-clause-tells
+returns-clause-tells c =
+    always (TellsRun c.args.scenario.now (played c.args.scenario.now) (played_history c.args.scenario.now)) c.leave.result
+    (run_told c.args.scenario.now (subst (λ (m : MachineData). StandsFor (first_map c.args.scenario.now) m []) c.in_ok-machine.ensures.machine c.in_ok-machine.ensures.stands)
+    (played_stands c.args.scenario.now c.in_ok-machine.machine c.in_ok-machine.ensures.machine c.in_ok-machine.ensures.stands))
+
+pub returns-clause-size : goal.returns-clause-size
+returns-clause-size c =
+    size_of (played c.args.scenario.now) (first_map c.args.scenario.now) (played_history c.args.scenario.now) c.leave.result
+    (played_stands c.args.scenario.now c.in_ok-machine.machine c.in_ok-machine.ensures.machine c.in_ok-machine.ensures.stands) (returns-clause-trace c)
+
+pub returns-clause-answered : goal.returns-clause-answered
+returns-clause-answered c =
+    answers_of c.args.scenario.now (first_map c.args.scenario.now) (played_history c.args.scenario.now) c.leave.result
+    (played_stands c.args.scenario.now c.in_ok-machine.machine c.in_ok-machine.ensures.machine c.in_ok-machine.ensures.stands) (returns-clause-trace c)

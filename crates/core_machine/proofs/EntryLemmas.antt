@@ -1,0 +1,188 @@
+-- The entries of a call are allowed by its task and its answer.
+use Rattle.std.proofs.Common.{◌≡◌, ℕ, ◌/◌, ◌<◌, ◌++◌, ◌∷◌, [], List, true, false, eqb, Option, Some, None, length, take, refl, sym, ap, ◌∙◌, subst, arith, inl, inr}
+use Rattle.std.specs.List.{All, find}
+use Rattle.std.specs.Option.{option_map}
+use Rattle.std.proofs.lemmas.Bool.{cases_Bool, eq-eqb}
+use Rattle.std.proofs.lemmas.List.{take_all}
+use Rattle.std.proofs.lemmas.List.Elements.{All-nil, All-cons, All-append, All-take}
+use Rattle.gpi_values.specs.declared.gpi.Gpi.{Gpi}
+use Rattle.gpi_values.specs.declared.gpi.Gpi.TheVariants as gpi
+use Rattle.gpi_values.specs.Values.{own_of, value_of}
+use Rattle.gpt_descriptors.specs.declared.size.Size.{Size}
+use Rattle.gpt_descriptors.specs.declared.size.Size.TheVariants as size
+use Rattle.gpt_descriptors.specs.declared.size.Generations.{Generations}
+use Rattle.gpt_descriptors.specs.Sizes.{granule_bytes, space_granules}
+use Rattle.gpt_descriptors.specs.Places.{GeometryData}
+use Rattle.gpt_descriptors.specs.Entries.{word_gpi}
+use Rattle.history.specs.declared.call.Task.{Task}
+use Rattle.history.specs.declared.call.Task.TheVariants as task
+use Rattle.history.specs.declared.call.Answer.{Answer}
+use Rattle.history.specs.declared.call.Answer.TheVariants as answer
+use Rattle.history.specs.declared.entry.Entry.{Entry}
+use Rattle.history.specs.declared.entry.Entry.TheVariants as entry
+use Rattle.history.specs.Entries.{granule_in, caller_in, call_in}
+use Rattle.history.specs.Counts.{is_worn}
+use Rattle.history.specs.Legality.{granule_of, needed, is_transition, IsChange, CallAllows}
+use Rattle.history.specs.Calls.{call_entries}
+use Rattle.delegate_ops.specs.declared.stage.Change.{Change}
+use Rattle.delegate_ops.specs.declared.stage.Change.TheVariants as change
+use Rattle.delegate_ops.specs.declared.stage.Stage.{Stage}
+use Rattle.delegate_ops.specs.declared.stage.Stage.TheVariants as stage
+use Rattle.delegate_ops.specs.Deciding.{address_of, idle_answer, granule_place, is_needed, refusal_of, generation_in}
+use Rattle.delegate_ops.specs.Agents.{IsChangeOf, IsStage}
+use Rattle.delegate_ops.specs.Script.{Event, Decides, IsCall, IsFront}
+use Rattle.delegate_ops.proofs.DecidingLemmas.{acts_inside}
+use Rattle.core_machine.specs.Callers.{change_entry, entries_before, front_at}
+use Rattle.core_machine.proofs.ListLemmas.{all_one}
+use Rattle.core_machine.proofs.TableLemmas.{granule_within}
+use Rattle.core_machine.proofs.ToldLemmas.{idle_quiet}
+
+-- ---- granules inside the space
+
+acts_granule : (g : GeometryData) (t : Task) → idle_answer g t ≡ None → address_of t / granule_bytes g.setup < space_granules g.setup
+acts_granule g t acts = granule_within g.setup (address_of t) (acts_inside g t acts)
+
+-- ---- the entries of one call
+
+-- an entry of call k of caller c, allowed by its task and its answer, on a granule of the space
+pub record IsOwnEntry (g : GeometryData) (c k : ℕ) (t : Task) (a : Answer) (e : Entry) : Type 0 where
+  pub caller : caller_in e ≡ c
+  pub call : call_in e ≡ k
+  pub allows : CallAllows t a e
+  pub granule : granule_of (granule_bytes g.setup) t ≡ Some (granule_in e)
+  pub inside : granule_in e < space_granules g.setup
+
+-- a transition with acts can be answered so
+abbrev pub FitsAnswer : Task → Answer → Type 0
+FitsAnswer t (answer.Perm found) = is_needed (needed t) found ≡ false
+FitsAnswer t (answer.Seen access) = ⊥
+FitsAnswer t a = Unit {0}
+
+change_allowed : (g : GeometryData) (c k : ℕ) (t : Task) (told : Generations) (granule : ℕ) (from to : Gpi) → granule_of (granule_bytes g.setup) t ≡ Some granule
+    → granule < space_granules g.setup → IsChange t from to → is_transition t ≡ true
+    → All (IsOwnEntry g c k t (answer.Done told)) (entry.Changed c k granule from to ∷ entry.Settled c k granule ∷ [])
+change_allowed g c k t told granule from to here inside changes transition =
+    All-cons (IsOwnEntry g c k t (answer.Done told)) (entry.Changed c k granule from to) (entry.Settled c k granule ∷ [])
+    (record { caller = refl; call = refl; allows = (refl, changes); granule = here; inside = inside })
+    (all_one (IsOwnEntry g c k t (answer.Done told)) (entry.Settled c k granule)
+    (record { caller = refl; call = refl; allows = (refl, transition); granule = here; inside = inside }))
+
+not_needed : (o : Option Gpi) (found : Gpi) → is_needed o found ≡ false → o ≡ Some found → ⊥
+not_needed None found other same = cc
+not_needed (Some gpi) found other same =
+    let one : gpi ≡ found = cc in
+    let equal : eqb (value_of gpi) (value_of found) ≡ true = eq-eqb (value_of gpi) (value_of found) (ap value_of one) in
+    let both : true ≡ false = sym equal ∙ other in cc
+
+pub fitting_allowed : (g : GeometryData) (c k : ℕ) (t : Task) (a : Answer) → idle_answer g t ≡ None → FitsAnswer t a → All (IsOwnEntry g c k t a) (call_entries (granule_bytes g.setup) c k t a)
+fitting_allowed g c k (task.Delegate pa source) (answer.Perm found) acts fits =
+    all_one (IsOwnEntry g c k (task.Delegate pa source) (answer.Perm found)) (entry.Refused c k (pa / granule_bytes g.setup) found)
+    (record { caller = refl; call = refl; allows = (refl, not_needed (Some gpi.NonSecure) found fits, refl); granule = refl; inside = acts_granule g (task.Delegate pa source) acts })
+fitting_allowed g c k (task.Delegate pa source) (answer.Worn z value) acts fits =
+    all_one (IsOwnEntry g c k (task.Delegate pa source) (answer.Worn z value)) (entry.Refused c k (pa / granule_bytes g.setup) gpi.NonSecure)
+    (record { caller = refl; call = refl; allows = refl; granule = refl; inside = acts_granule g (task.Delegate pa source) acts })
+fitting_allowed g c k (task.Delegate pa source) (answer.Done told) acts fits =
+    change_allowed g c k (task.Delegate pa source) told (pa / granule_bytes g.setup) gpi.NonSecure (own_of source) refl (acts_granule g (task.Delegate pa source) acts) (refl, refl) refl
+fitting_allowed g c k (task.Undelegate pa source) (answer.Perm found) acts fits =
+    all_one (IsOwnEntry g c k (task.Undelegate pa source) (answer.Perm found)) (entry.Refused c k (pa / granule_bytes g.setup) found)
+    (record { caller = refl; call = refl; allows = (refl, not_needed (Some (own_of source)) found fits, refl); granule = refl; inside = acts_granule g (task.Undelegate pa source) acts })
+fitting_allowed g c k (task.Undelegate pa source) (answer.Worn z value) acts fits =
+    all_one (IsOwnEntry g c k (task.Undelegate pa source) (answer.Worn z value)) (entry.Refused c k (pa / granule_bytes g.setup) (own_of source))
+    (record { caller = refl; call = refl; allows = refl; granule = refl; inside = acts_granule g (task.Undelegate pa source) acts })
+fitting_allowed g c k (task.Undelegate pa source) (answer.Done told) acts fits =
+    let inside : pa / granule_bytes g.setup < space_granules g.setup = acts_granule g (task.Undelegate pa source) acts in
+    All-append (IsOwnEntry g c k (task.Undelegate pa source) (answer.Done told))
+    (entry.Changed c k (pa / granule_bytes g.setup) (own_of source) gpi.NoAccess ∷ entry.Settled c k (pa / granule_bytes g.setup) ∷ [])
+    (entry.Changed c k (pa / granule_bytes g.setup) gpi.NoAccess gpi.NonSecure ∷ entry.Settled c k (pa / granule_bytes g.setup) ∷ [])
+    (change_allowed g c k (task.Undelegate pa source) told (pa / granule_bytes g.setup) (own_of source) gpi.NoAccess refl inside (inl (refl, refl)) refl)
+    (change_allowed g c k (task.Undelegate pa source) told (pa / granule_bytes g.setup) gpi.NoAccess gpi.NonSecure refl inside (inr (refl, refl)) refl)
+fitting_allowed g c k (task.Look pa space) (answer.Seen access) acts fits = absurd fits
+fitting_allowed g c k t a acts fits = All-nil (IsOwnEntry g c k t a)
+
+-- ---- what a transition is answered
+
+refused_fits : (t : Task) (o : Option Gpi) (a : Answer) → refusal_of t o ≡ Some a → FitsAnswer t a
+refused_fits t None a refused = absurd cc
+refused_fits t (Some found) a refused =
+    elim (cases_Bool (is_needed (needed t) found)) [
+      | inl same ↦ absurd (let both = rw same at refused in cc)
+      | inr other ↦ subst (FitsAnswer t) (let both = rw other at refused in let is : answer.Perm found ≡ a = cc in is) other
+    ]
+
+worn_fits : (t : Task) (o : Option Size) (f : Size → ℕ) (a : Answer) → option_map (λ z. answer.Worn z (f z)) o ≡ Some a → FitsAnswer t a
+worn_fits t None f a worn = absurd cc
+worn_fits t (Some z) f a worn = subst (FitsAnswer t) (let is : answer.Worn z (f z) ≡ a = cc in is) tt
+
+pub decided_fits : (g : GeometryData) (t : Task) (told : Answer) (events : List Event) → Decides g t (Some told) events → FitsAnswer t told
+decided_fits g t told events decided =
+    elim decided [
+      | inl refused ↦ refused_fits t (word_gpi refused.word (granule_place g (address_of t))) told refused.refused
+      | inr later ↦ elim later [
+        | inl worn ↦ worn_fits t (find (λ z. is_worn (generation_in z worn.generations)) (size.Two ∷ size.ThirtyTwo ∷ size.FiveTwelve ∷ [])) (λ z. generation_in z worn.generations) told worn.worn
+        | inr done ↦ subst (FitsAnswer t) (sym done.is) tt
+      ]
+    ]
+
+call_allowed_by : (g : GeometryData) (c k : ℕ) (t : Task) (a : Answer) (own : List Event) (idle : Option Answer) → idle_answer g t ≡ idle → IsCall g t idle a own
+    → All (IsOwnEntry g c k t a) (call_entries (granule_bytes g.setup) c k t a)
+call_allowed_by g c k t a own None acts call = fitting_allowed g c k t a acts (decided_fits g t a call.deciding call.decided)
+call_allowed_by g c k t a own (Some b) idle call =
+    subst (All (IsOwnEntry g c k t a)) (sym (idle_quiet g (granule_bytes g.setup) c k t a (idle ∙ ap Some call.0))) (All-nil (IsOwnEntry g c k t a))
+
+-- the entries of an answered call
+pub call_allowed : (g : GeometryData) (c k : ℕ) (t : Task) (a : Answer) (own : List Event) → IsCall g t (idle_answer g t) a own
+    → All (IsOwnEntry g c k t a) (call_entries (granule_bytes g.setup) c k t a)
+call_allowed g c k t a own call = call_allowed_by g c k t a own (idle_answer g t) refl call
+
+-- ---- the call under way
+
+-- what it has made are the first entries of an answer that it can have
+abbrev pub IsFrontFit : GeometryData → ℕ → ℕ → Option Task → List Entry → Type 0
+IsFrontFit g c k None made = made ≡ []
+IsFrontFit g c k (Some t) made = (a : Answer) × (n : ℕ) × (made ≡ take n (call_entries (granule_bytes g.setup) c k t a)) × FitsAnswer t a
+
+no_generations : Generations
+no_generations = record { two = 0; thirty_two = 0; five_twelve = 0 }
+
+changing_fits : (g : GeometryData) (c k : ℕ) (t : Task) (ch : Change) → IsFrontFit g c k (Some t) (entries_before g c k t ch)
+changing_fits g c k (task.Undelegate pa source) change.Last = (answer.Done no_generations, 2, refl, tt)
+changing_fits g c k t ch = (answer.Inval, 0, refl, tt)
+
+raising_fits : (g : GeometryData) (c k : ℕ) (t : Task) (ch : Change) → IsChangeOf t ch → IsFrontFit g c k (Some t) (entries_before g c k t ch ++ change_entry g c k t ch ∷ [])
+raising_fits g c k (task.Delegate pa source) change.First changes = absurd changes
+raising_fits g c k (task.Delegate pa source) change.Last changes = (answer.Done no_generations, 1, refl, tt)
+raising_fits g c k (task.Undelegate pa source) change.First changes = (answer.Done no_generations, 1, refl, tt)
+raising_fits g c k (task.Undelegate pa source) change.Last changes = (answer.Done no_generations, 3, refl, tt)
+raising_fits g c k task.Unknown ch changes = absurd changes
+raising_fits g c k (task.Look pa space) ch changes = absurd changes
+
+no_task_front : (g : GeometryData) (c k : ℕ) (s : Stage) → front_at g c k s None ≡ []
+no_task_front g c k stage.Locking = refl
+no_task_front g c k stage.Looking = refl
+no_task_front g c k (stage.Reading z kept) = refl
+no_task_front g c k (stage.Changing ch kept) = refl
+no_task_front g c k (stage.Raising ch z kept) = refl
+no_task_front g c k (stage.Releasing told) = refl
+no_task_front g c k stage.Stopped = refl
+
+pub front_fits : (g : GeometryData) (c k : ℕ) (s : Stage) (o : Option Task) (events : List Event) → IsStage s o → IsFront g s o events → IsFrontFit g c k o (front_at g c k s o)
+front_fits g c k (stage.Changing ch kept) (Some t) events fits front = changing_fits g c k t ch
+front_fits g c k (stage.Raising ch size.Two kept) (Some t) events fits front = raising_fits g c k t ch fits.0
+front_fits g c k (stage.Raising ch size.ThirtyTwo kept) (Some t) events fits front = raising_fits g c k t ch fits.0
+front_fits g c k (stage.Raising ch size.FiveTwelve kept) (Some t) events fits front = raising_fits g c k t ch fits.0
+front_fits g c k (stage.Releasing (Some told)) (Some t) events fits front =
+    let es : List Entry = call_entries (granule_bytes g.setup) c k t told in
+    (told, length es, sym (take_all (length es) es (omega arith)), decided_fits g t told events front)
+front_fits g c k (stage.Releasing None) (Some t) events fits front = (answer.Inval, 0, refl, tt)
+front_fits g c k stage.Locking (Some t) events fits front = (answer.Inval, 0, refl, tt)
+front_fits g c k stage.Looking (Some t) events fits front = (answer.Inval, 0, refl, tt)
+front_fits g c k (stage.Reading z kept) (Some t) events fits front = (answer.Inval, 0, refl, tt)
+front_fits g c k stage.Stopped (Some t) events fits front = (answer.Inval, 0, refl, tt)
+front_fits g c k s None events fits front = no_task_front g c k s
+
+-- the entries of a front are allowed by an answer
+pub front_allowed : (g : GeometryData) (c k : ℕ) (t : Task) (made : List Entry) → idle_answer g t ≡ None → IsFrontFit g c k (Some t) made
+    → (a : Answer) × All (IsOwnEntry g c k t a) made
+front_allowed g c k t made acts fits =
+    let es : List Entry = call_entries (granule_bytes g.setup) c k t fits.0 in
+    (fits.0, subst (All (IsOwnEntry g c k t fits.0)) (sym fits.2) (All-take (IsOwnEntry g c k t fits.0) fits.1 es (fitting_allowed g c k t fits.0 acts fits.3)))

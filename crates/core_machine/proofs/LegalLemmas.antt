@@ -1,0 +1,254 @@
+-- What the callers' own entries and the states tell: a legal history of their calls.
+use Rattle.std.proofs.Common.{◌≡◌, ℕ, suc, ◌+◌, ◌<◌, ◌++◌, ◌∷◌, [], List, eqb, Option, Some, None, length, map, refl, sym, ap, ◌∙◌, subst, arith, inl, inr}
+use Rattle.std.specs.Prelude.{slice_get, option_and_then}
+use Rattle.std.specs.List.{All}
+use Rattle.std.specs.Option.{option_map}
+use Rattle.std.proofs.lemmas.Bool.{cases_Bool, eq-eqb}
+use Rattle.std.proofs.lemmas.Option.{slice_get-map, slice_get_cases, slice_get_past, slice_get_within, get_or_from_slice_get}
+use Rattle.std.proofs.lemmas.List.Elements.{All-nil, All-cons, All-head, All-tail, All-append, All-weaker}
+use Rattle.gpi_values.specs.declared.gpi.Gpi.{Gpi}
+use Rattle.gpt_descriptors.specs.Sizes.{granule_bytes, space_granules}
+use Rattle.gpt_descriptors.specs.Places.{GeometryData}
+use Rattle.history.specs.declared.call.Task.{Task}
+use Rattle.history.specs.declared.call.Answer.{Answer}
+use Rattle.history.specs.declared.call.Answer.TheVariants as answer
+use Rattle.history.specs.declared.entry.Entry.{Entry}
+use Rattle.history.specs.Entries.{granule_in, caller_in, call_in}
+use Rattle.history.specs.States.{State, start, after_entry}
+use Rattle.history.specs.Legality.{granule_of, CallAllows}
+use Rattle.history.specs.Calls as calls
+use Rattle.history.specs.Calls.{entries_by, call_entries, answered_entries, IsUnderWay, task_at, answer_at, Fits, IsLegalHistory, TellsCalls}
+use Rattle.delegate_ops.specs.declared.stage.Stage.{Stage}
+use Rattle.delegate_ops.specs.Agents.{AgentData, IsAgent, HasActs, IsStage, task_of}
+use Rattle.delegate_ops.specs.Script.{Event, AreCallEvents, IsFront, StandsAfter}
+use Rattle.core_machine.specs.declared.caller.Caller.{Caller}
+use Rattle.core_machine.specs.declared.caller.Caller.TheVariants as caller
+use Rattle.core_machine.specs.Callers.{caller_answers, front_at, own_of}
+use Rattle.core_machine.specs.Counted.{caller_tasks}
+use Rattle.core_machine.specs.Told.{AreAllowed, Tells}
+use Rattle.core_machine.specs.Stands.{IsMade}
+use Rattle.core_machine.proofs.AloneLemmas.{own_first}
+use Rattle.core_machine.proofs.LoadActs.{length_after}
+use Rattle.core_machine.proofs.EntryLemmas.{IsOwnEntry, call_allowed, IsFrontFit, front_fits, front_allowed}
+
+-- ---- an entry that its call allows
+
+pub record IsKnown (g : GeometryData) (tasks : List (List Task)) (answers : List (List Answer)) (e : Entry) : Type 0 where
+  pub asked : Task
+  pub answered : Answer
+  pub task : task_at tasks (caller_in e) (call_in e) ≡ Some asked
+  pub answer : Fits (answer_at answers (caller_in e) (call_in e)) answered
+  pub allows : CallAllows asked answered e
+  pub granule : granule_of (granule_bytes g.setup) asked ≡ Some (granule_in e)
+  pub inside : granule_in e < space_granules g.setup
+
+known_of : (g : GeometryData) (tasks : List (List Task)) (answers : List (List Answer)) (c k : ℕ) (t : Task) (a : Answer) (e : Entry)
+    → task_at tasks c k ≡ Some t → Fits (answer_at answers c k) a → IsOwnEntry g c k t a e → IsKnown g tasks answers e
+known_of g tasks answers c k t a e asks told own = record {
+  asked = t;
+  answered = a;
+  task = subst (λ (n : ℕ). task_at tasks n (call_in e) ≡ Some t) (sym own.caller) (subst (λ (n : ℕ). task_at tasks c n ≡ Some t) (sym own.call) asks);
+  answer = subst (λ (n : ℕ). Fits (answer_at answers n (call_in e)) a) (sym own.caller) (subst (λ (n : ℕ). Fits (answer_at answers c n) a) (sym own.call) told);
+  allows = own.allows;
+  granule = own.granule;
+  inside = own.inside;
+}
+
+-- ---- the entries of one caller
+
+own_task : (tasks : List (List Task)) (c : ℕ) (own : List Task) (k : ℕ) → slice_get tasks c ≡ Some own → task_at tasks c k ≡ slice_get own k
+own_task tasks c own k at = ap (λ (o : Option (List Task)). option_and_then (λ list. slice_get list k) o) at
+
+own_answer : (answers : List (List Answer)) (c : ℕ) (own : List Answer) (k : ℕ) → slice_get answers c ≡ Some own → answer_at answers c k ≡ slice_get own k
+own_answer answers c own k at = ap (λ (o : Option (List Answer)). option_and_then (λ list. slice_get list k) o) at
+
+fits_given : (o : Option Answer) (a : Answer) → o ≡ Some a → Fits o a
+fits_given o a given = subst (λ (x : Option Answer). Fits x a) (sym given) refl
+
+fits_any : (o : Option Answer) (a : Answer) → o ≡ None → Fits o a
+fits_any o a none = subst (λ (x : Option Answer). Fits x a) (sym none) tt
+
+answered_each : (Q : Entry → Type 0) (g : GeometryData) (c k : ℕ) (tasks : List Task) (answers : List Answer) (events : List Event) → AreCallEvents g tasks answers events
+    → ((j : ℕ) (t : Task) (a : Answer) (e : Entry) → slice_get tasks j ≡ Some t → slice_get answers j ≡ Some a → IsOwnEntry g c (k + j) t a e → Q e)
+    → All Q (answered_entries (granule_bytes g.setup) c k tasks answers)
+answered_each Q g c k [] answers events are each = All-nil Q
+answered_each Q g c k (t ∷ tasks) [] events are each = All-nil Q
+answered_each Q g c k (t ∷ tasks) (a ∷ answers) events are each =
+    All-append Q (call_entries (granule_bytes g.setup) c k t a) (answered_entries (granule_bytes g.setup) c (k + 1) tasks answers)
+    (All-weaker (IsOwnEntry g c k t a) Q
+    (λ e own. each 0 t a e refl refl (subst (λ (n : ℕ). IsOwnEntry g c n t a e) (let here : k ≡ k + 0 = omega arith in here) own))
+    (call_entries (granule_bytes g.setup) c k t a) (call_allowed g c k t a are.0 are.3))
+    (answered_each Q g c (k + 1) tasks answers are.1 are.4
+    (λ j u b e asks told own. each (suc j) u b e asks told (subst (λ (n : ℕ). IsOwnEntry g c n u b e) (let there : k + 1 + j ≡ k + suc j = omega arith in there) own)))
+
+front_known : (g : GeometryData) (tasks : List (List Task)) (answers : List (List Answer)) (c k : ℕ) (s : Stage) (o : Option Task) (events : List Event)
+    → IsStage s o → HasActs g o → IsFront g s o events → task_at tasks c k ≡ o → answer_at answers c k ≡ None → All (IsKnown g tasks answers) (front_at g c k s o)
+front_known g tasks answers c k s None events fits acts front asks told =
+    subst (All (IsKnown g tasks answers)) (sym (front_fits g c k s None events fits front)) (All-nil (IsKnown g tasks answers))
+front_known g tasks answers c k s (Some t) events fits acts front asks told =
+    let own = front_allowed g c k t (front_at g c k s (Some t)) acts (front_fits g c k s (Some t) events fits front) in
+    All-weaker (IsOwnEntry g c k t own.0) (IsKnown g tasks answers)
+    (λ e is. known_of g tasks answers c k t own.0 e asks (fits_any (answer_at answers c k) own.0 told) is)
+    (front_at g c k s (Some t)) own.1
+
+agent_known : (tasks : List (List Task)) (answers : List (List Answer)) (c : ℕ) (a : AgentData) (events : List Event) → slice_get tasks c ≡ Some a.tasks → slice_get answers c ≡ Some a.answers
+    → IsAgent a → StandsAfter a events → All (IsKnown a.geometry tasks answers) (own_of c (caller.Agent a))
+agent_known tasks answers c a events asks told agent stands =
+    All-append (IsKnown a.geometry tasks answers)
+    (answered_entries (granule_bytes a.geometry.setup) c 0 a.tasks a.answers)
+    (front_at a.geometry c (length a.answers) a.stage (task_of a))
+    (answered_each (IsKnown a.geometry tasks answers) a.geometry c 0 a.tasks a.answers stands.calls stands.answered
+    (λ j t b e task_is answer_is own.
+    known_of a.geometry tasks answers c j t b e (own_task tasks c a.tasks j asks ∙ task_is)
+    (fits_given (answer_at answers c j) b (own_answer answers c a.answers j told ∙ answer_is))
+    (subst (λ (n : ℕ). IsOwnEntry a.geometry c n t b e) (let number : 0 + j ≡ j = omega arith in number) own)))
+    (front_known a.geometry tasks answers c (length a.answers) a.stage (task_of a) stands.front agent.stage agent.acts stands.under_way
+    (own_task tasks c a.tasks (length a.answers) asks)
+    (own_answer answers c a.answers (length a.answers) told ∙ slice_get_past a.answers (length a.answers) (omega arith)))
+
+-- ---- the entries of all callers
+
+-- each agent was made with this geometry and stands in its script
+abbrev pub AreMade : GeometryData → List Caller → Type 0
+AreMade g callers =
+    (c : ℕ) (a : AgentData) → slice_get callers c ≡ Some (caller.Agent a) → (a.geometry ≡ g) × IsAgent a × (events : List Event) × StandsAfter a events
+
+-- the tasks of each agent are among these
+abbrev pub HaveTasks : List (List Task) → List Caller → Type 0
+HaveTasks tasks callers = (c : ℕ) (a : AgentData) → slice_get callers c ≡ Some (caller.Agent a) → slice_get tasks c ≡ Some a.tasks
+
+answers_at : (callers : List Caller) (c : ℕ) (x : Caller) → slice_get callers c ≡ Some x → slice_get (map caller_answers callers) c ≡ Some (caller_answers x)
+answers_at callers c x at = slice_get-map caller_answers callers c ∙ ap (λ (o : Option Caller). option_map caller_answers o) at
+
+caller_known : (g : GeometryData) (tasks : List (List Task)) (callers : List Caller) (c : ℕ) (x : Caller) → slice_get callers c ≡ Some x → HaveTasks tasks callers → AreMade g callers
+    → All (IsKnown g tasks (map caller_answers callers)) (own_of c x)
+caller_known g tasks callers c (caller.Agent a) at have made =
+    let is = made c a at in
+    subst (λ (v : GeometryData). All (IsKnown v tasks (map caller_answers callers)) (own_of c (caller.Agent a))) is.0
+    (agent_known tasks (map caller_answers callers) c a is.2 (have c a at) (answers_at callers c (caller.Agent a) at) is.1 is.3)
+caller_known g tasks callers c (caller.Cpu looks) at have made = All-nil (IsKnown g tasks (map caller_answers callers))
+
+own_rest : (Q : Entry → Type 0) (c : ℕ) (e : Entry) (h : List Entry) → All Q (entries_by c (e ∷ h)) → All Q (entries_by c h)
+own_rest Q c e h all =
+    elim (cases_Bool (eqb (caller_in e) c)) [
+      | inl own ↦ All-tail Q e (entries_by c h) (subst (All Q) (own_first c e h own) all)
+      | inr other ↦ rw other at all
+    ]
+
+-- what holds of each caller's entries holds of all
+all_callers : (Q : Entry → Type 0) (n : ℕ) (h : List Entry) → ((c : ℕ) → c < n → All Q (entries_by c h)) → All (λ e. caller_in e < n) h → All Q h
+all_callers Q n [] each known = All-nil Q
+all_callers Q n (e ∷ h) each known =
+    All-cons Q e h
+    (All-head Q e (entries_by (caller_in e) h)
+    (subst (All Q) (own_first (caller_in e) e h (eq-eqb (caller_in e) (caller_in e) refl)) (each (caller_in e) (All-head (λ (x : Entry). caller_in x < n) e h known))))
+    (all_callers Q n h (λ c low. own_rest Q c e h (each c low)) (All-tail (λ (x : Entry). caller_in x < n) e h known))
+
+all_known : (g : GeometryData) (first : List Gpi) (callers : List Caller) (h : List Entry) (tasks : List (List Task)) → Tells first callers h → HaveTasks tasks callers → AreMade g callers
+    → All (IsKnown g tasks (map caller_answers callers)) h
+all_known g first callers h tasks tells have made =
+    all_callers (IsKnown g tasks (map caller_answers callers)) (length callers) h
+    (λ c low. elim (slice_get_cases callers c).1 [
+      | inl here ↦ subst (All (IsKnown g tasks (map caller_answers callers))) (sym (tells.own c here.0 here.2)) (caller_known g tasks callers c here.0 here.2 have made)
+      | inr past ↦ absurd (let beyond = past.0 in omega (arith, beyond, low))
+    ])
+    tells.known
+
+-- ---- the history is legal
+
+legal_from : (g : GeometryData) (tasks : List (List Task)) (answers : List (List Answer)) (s : State) (h : List Entry) → All (IsKnown g tasks answers) h → AreAllowed s h
+    → length s.map ≡ space_granules g.setup → IsLegalHistory (granule_bytes g.setup) tasks answers s h
+legal_from g tasks answers s [] known allowed size = tt
+legal_from g tasks answers s (e ∷ h) known allowed size =
+    let here = All-head (IsKnown g tasks answers) e h known in (
+      record {
+        asked = here.asked;
+        answered = here.answered;
+        task = here.task;
+        answer = here.answer;
+        legal = record {
+          granule = here.granule;
+          inside = subst (λ (n : ℕ). granule_in e < n) (sym size) here.inside;
+          state = allowed.0;
+          call = here.allows;
+        };
+      },
+      legal_from g tasks answers (after_entry s e) h (All-tail (IsKnown g tasks answers) e h known) allowed.1 (length_after s e ∙ size),
+    )
+
+pub made_legal : (g : GeometryData) (first : List Gpi) (callers : List Caller) (h : List Entry) (tasks : List (List Task)) → Tells first callers h → HaveTasks tasks callers → AreMade g callers
+    → length first ≡ space_granules g.setup → IsLegalHistory (granule_bytes g.setup) tasks (map caller_answers callers) (start first) h
+made_legal g first callers h tasks tells have made size =
+    legal_from g tasks (map caller_answers callers) (start first) h (all_known g first callers h tasks tells have made) tells.allowed size
+
+-- ---- it tells each call
+
+under_way_of : (g : GeometryData) (c k : ℕ) (o : Option Task) (made : List Entry) → IsFrontFit g c k o made → IsUnderWay (granule_bytes g.setup) c k o made
+under_way_of g c k None made fits = fits
+under_way_of g c k (Some t) made fits = (fits.0, fits.1, fits.2)
+
+none_under_way : (bytes c k : ℕ) (o : Option Task) → IsUnderWay bytes c k o []
+none_under_way bytes c k None = refl
+none_under_way bytes c k (Some t) = (answer.Inval, 0, refl)
+
+agent_calls : (c : ℕ) (a : AgentData) (h : List Entry) (events : List Event) → IsAgent a → StandsAfter a events → entries_by c h ≡ own_of c (caller.Agent a)
+    → calls.AreCalls (granule_bytes a.geometry.setup) c a.tasks a.answers h
+agent_calls c a h events agent stands own = record {
+  under_way = front_at a.geometry c (length a.answers) a.stage (task_of a);
+  in_order = own;
+  front = under_way_of a.geometry c (length a.answers) (task_of a) (front_at a.geometry c (length a.answers) a.stage (task_of a))
+      (front_fits a.geometry c (length a.answers) a.stage (task_of a) stands.front agent.stage stands.under_way);
+}
+
+no_answers : (bytes c k : ℕ) (tasks : List Task) → answered_entries bytes c k tasks [] ≡ []
+no_answers bytes c k [] = refl
+no_answers bytes c k (t ∷ tasks) = refl
+
+cpu_calls : (bytes c : ℕ) (tasks : List Task) (h : List Entry) → entries_by c h ≡ [] → calls.AreCalls bytes c tasks [] h
+cpu_calls bytes c tasks h none = record {
+  under_way = [];
+  in_order = none ∙ ap (λ (es : List Entry). es ++ []) (sym (no_answers bytes c 0 tasks));
+  front = none_under_way bytes c 0 (slice_get tasks 0);
+}
+
+caller_calls : (g : GeometryData) (callers : List Caller) (h : List Entry) (tasks : List (List Task)) (c : ℕ) (x : Caller) (own : List Task) → slice_get callers c ≡ Some x
+    → HaveTasks tasks callers → AreMade g callers → entries_by c h ≡ own_of c x → slice_get tasks c ≡ Some own → calls.AreCalls (granule_bytes g.setup) c own (caller_answers x) h
+caller_calls g callers h tasks c (caller.Agent a) own at have made entries asks =
+    let is = made c a at in
+    let asked = have c a at in
+    let same : a.tasks ≡ own = cc in
+    subst (λ (v : GeometryData). calls.AreCalls (granule_bytes v.setup) c own a.answers h) is.0
+    (subst (λ (ts : List Task). calls.AreCalls (granule_bytes a.geometry.setup) c ts a.answers h) same
+    (agent_calls c a h is.2 is.1 is.3 entries))
+caller_calls g callers h tasks c (caller.Cpu looks) own at have made entries asks = cpu_calls (granule_bytes g.setup) c own h entries
+
+told_calls : (g : GeometryData) (first : List Gpi) (callers : List Caller) (h : List Entry) (tasks : List (List Task)) (c : ℕ) (own : List Task) (told : List Answer)
+    → Tells first callers h → HaveTasks tasks callers → AreMade g callers → slice_get tasks c ≡ Some own → slice_get (map caller_answers callers) c ≡ Some told
+    → calls.AreCalls (granule_bytes g.setup) c own told h
+told_calls g first callers h tasks c own told tells have made asks answers =
+    elim (slice_get_cases callers c).1 [
+      | inl here ↦
+          let given = answers_at callers c here.0 here.2 in
+          let same : caller_answers here.0 ≡ told = cc in
+          subst (λ (list : List Answer). calls.AreCalls (granule_bytes g.setup) c own list h) same
+          (caller_calls g callers h tasks c here.0 own here.2 have made (tells.own c here.0 here.2) asks)
+      | inr past ↦
+          absurd (let none : slice_get (map caller_answers callers) c ≡ None = slice_get-map caller_answers callers c ∙ ap (λ (o : Option Caller). option_map caller_answers o) past.1 in cc)
+    ]
+
+pub made_calls : (g : GeometryData) (first : List Gpi) (callers : List Caller) (h : List Entry) (tasks : List (List Task)) → Tells first callers h → HaveTasks tasks callers → AreMade g callers
+    → length tasks ≡ length callers → TellsCalls (granule_bytes g.setup) tasks (map caller_answers callers) h
+made_calls g first callers h tasks tells have made count = record {
+  callers = λ c own told asks answers. told_calls g first callers h tasks c own told tells have made asks answers;
+  known = subst (λ (n : ℕ). All (λ (e : Entry). caller_in e < n) h) (sym count) tells.known;
+}
+
+-- ---- its premises, of callers that stand
+
+pub are_made : (g : GeometryData) (callers : List Caller) → All (IsMade g) callers → AreMade g callers
+are_made g callers all = λ c a at.
+    subst (IsMade g) (get_or_from_slice_get callers c (caller.Agent a) (caller.Agent a) at)
+    (all c (caller.Agent a) (slice_get_within callers c (caller.Agent a) at))
+
+pub have_own : (callers : List Caller) → HaveTasks (map caller_tasks callers) callers
+have_own callers = λ c a at. slice_get-map caller_tasks callers c ∙ ap (λ (o : Option Caller). option_map caller_tasks o) at

@@ -1,0 +1,38 @@
+-- Answers tell the counts of the history.
+use Rattle.std.specs.Prelude.{◌≡◌, ℕ, List, [], ◌∷◌, ◌++◌, slice_get, Some}
+use Rattle.gpt_descriptors.specs.Sizes.{granule_bytes}
+use Rattle.gpt_descriptors.specs.Places.{GeometryData}
+use Rattle.history.specs.declared.call.Task.{Task}
+use Rattle.history.specs.declared.call.Answer.{Answer}
+use Rattle.history.specs.declared.call.Answer.TheVariants as answer
+use Rattle.history.specs.declared.entry.Entry.{Entry}
+use Rattle.history.specs.Counts.{AreDoneCounts, IsWornCount}
+use Rattle.delegate_ops.specs.declared.stage.Stage.{Stage}
+use Rattle.delegate_ops.specs.declared.stage.Stage.TheVariants as stage
+use Rattle.core_machine.specs.declared.caller.Caller.{Caller}
+use Rattle.core_machine.specs.declared.caller.Caller.TheVariants as caller
+use Rattle.core_machine.specs.Callers.{granule_of_task}
+
+-- the generations that call k of caller c is answered are the counts of the history
+abbrev pub IsCounted : GeometryData → ℕ → ℕ → Task → Answer → List Entry → Type 0
+IsCounted g c k t (answer.Done told) h = AreDoneCounts g.setup.first (granule_bytes g.setup) c k (granule_of_task g t) told h
+IsCounted g c k t (answer.Worn z value) h = IsWornCount g.setup.first (granule_bytes g.setup) c k (granule_of_task g t) z value h
+IsCounted g c k t told h = Unit {0}
+
+-- the answer that the call under way is to have, where it is known
+abbrev pub coming_at : Stage → List Answer
+coming_at (stage.Releasing (Some told)) = told ∷ []
+coming_at s = []
+
+abbrev pub known_answers : Caller → List Answer
+known_answers (caller.Agent a) = a.answers ++ coming_at a.stage
+known_answers (caller.Cpu looks) = []
+
+abbrev pub caller_tasks : Caller → List Task
+caller_tasks (caller.Agent a) = a.tasks
+caller_tasks (caller.Cpu looks) = []
+
+abbrev pub AnswersCount : GeometryData → List Caller → List Entry → Type 0
+AnswersCount g callers h =
+    (c k : ℕ) (caller : Caller) (t : Task) (told : Answer) → slice_get callers c ≡ Some caller → slice_get (caller_tasks caller) k ≡ Some t
+    → slice_get (known_answers caller) k ≡ Some told → IsCounted g c k t told h

@@ -1,0 +1,52 @@
+-- What a transition changes: the GPI of its granule in the L1 word, and the generations around it.
+use Rattle.std.specs.Prelude.{ℕ, ◌+◌, ◌*◌, ◌/◌, ◌%◌, ◌^◌}
+use Rattle.gpi_values.specs.declared.gpi.Gpi.{Gpi}
+use Rattle.gpi_values.specs.declared.gpi.Gpi.TheVariants as gpi
+use Rattle.gpi_values.specs.Values.{value_of, own_of}
+use Rattle.gpt_descriptors.specs.declared.size.Size.{Size}
+use Rattle.gpt_descriptors.specs.declared.size.Size.TheVariants as size
+use Rattle.gpt_descriptors.specs.declared.size.Generations.{Generations}
+use Rattle.gpt_descriptors.specs.Places.{GeometryData}
+use Rattle.history.specs.declared.call.Task.{Task}
+use Rattle.history.specs.declared.call.Task.TheVariants as task
+use Rattle.delegate_ops.specs.declared.stage.Change.{Change}
+use Rattle.delegate_ops.specs.declared.stage.Change.TheVariants as change
+use Rattle.delegate_ops.specs.Deciding.{address_of, granule_place, generation_in}
+
+-- the first change that a transition makes: a delegate has the last one alone
+abbrev pub first_change : Task → Change
+first_change (task.Undelegate pa source) = change.First
+first_change t = change.Last
+
+-- the GPI from which, and to which, a change takes the granule
+abbrev pub from_of : Task → Change → Gpi
+from_of (task.Undelegate pa source) change.First = own_of source
+from_of (task.Undelegate pa source) change.Last = gpi.NoAccess
+from_of t c = gpi.NonSecure
+
+abbrev pub to_of : Task → Change → Gpi
+to_of (task.Delegate pa source) c = own_of source
+to_of (task.Undelegate pa source) change.First = gpi.NoAccess
+to_of t c = gpi.NonSecure
+
+-- a granules word with field i, bits 4 i + 3 to 4 i, replaced
+abbrev pub with_field : ℕ → ℕ → ℕ → ℕ
+with_field word i value = (word / 2 ^ (4 * i) / 16 * 16 + value) * 2 ^ (4 * i) + word % 2 ^ (4 * i)
+
+-- the L1 word after a change
+abbrev pub changed_word : GeometryData → Task → Change → ℕ → ℕ
+changed_word g t c word = with_field word (granule_place g (address_of t)) (value_of (to_of t c))
+
+-- the generations with one of them replaced
+abbrev pub with_generation : Size → ℕ → Generations → Generations
+with_generation size.Two n k = record { two = n; thirty_two = k.thirty_two; five_twelve = k.five_twelve }
+with_generation size.ThirtyTwo n k = record { two = k.two; thirty_two = n; five_twelve = k.five_twelve }
+with_generation size.FiveTwelve n k = record { two = k.two; thirty_two = k.thirty_two; five_twelve = n }
+
+-- the generations with one of them raised
+abbrev pub raised_at : Size → Generations → Generations
+raised_at z k = with_generation z (generation_in z k + 1) k
+
+-- all three raised
+abbrev pub raised : Generations → Generations
+raised k = record { two = k.two + 1; thirty_two = k.thirty_two + 1; five_twelve = k.five_twelve + 1 }

@@ -1,0 +1,49 @@
+use super::*;
+use gpt_descriptors::{MaxBlock, Setup, l0_good};
+use std::test::Fail;
+
+/// A space of so many gigabytes, all blocks.
+fn all_blocks(gigabytes: u64) -> Result<Geometry, Fail> {
+    let setup = Setup::new(gigabytes, MaxBlock::Zero, 0, 0, 1, 0, 0).ok_or("refused")?;
+    let l0 = [0xf1; 64];
+    let l0 = l0.get(..setup.gigabytes() as usize).ok_or("too large")?;
+    if !l0_good(&setup, l0) {
+        return Err("a bad table")?;
+    }
+    Ok(Geometry::new(setup, 1, l0))
+}
+
+#[test]
+fn generations_stand_where_they_were_worked_out_by_hand(rt: HostRuntime) -> Result<(), Fail> {
+    // Gigabytes, size, address and place: 2 locks, then 512, 32 and 2 generations for each gigabyte.
+    let table = [
+        (4, Size::Two, 0, 2),
+        (4, Size::Two, 0x1f_ffff, 2),
+        (4, Size::Two, 0x20_0000, 3),
+        (4, Size::Two, 0xffff_ffff, 2049),
+        (4, Size::ThirtyTwo, 0, 2050),
+        (4, Size::ThirtyTwo, 0x200_0000, 2051),
+        (4, Size::ThirtyTwo, 0xffff_ffff, 2177),
+        (4, Size::FiveTwelve, 0, 2178),
+        (4, Size::FiveTwelve, 0x2000_0000, 2179),
+        (4, Size::FiveTwelve, 0xffff_ffff, 2185),
+        (64, Size::Two, 0xf_ffff_ffff, 32769),
+        (64, Size::ThirtyTwo, 0xf_ffff_ffff, 34817),
+        (64, Size::FiveTwelve, 0xf_ffff_ffff, 34945),
+    ];
+    for (gigabytes, size, pa, place) in table {
+        let geometry = all_blocks(gigabytes)?;
+        assert!(rt; geometry.inside(pa));
+        assert_eq!(rt;
+            gen_load(&geometry, size, pa),
+            Act::Load(place),
+            "of {pa:#x}"
+        );
+        assert_eq!(rt;
+            gen_raise(&geometry, size, pa, 6),
+            Act::Store(place, 7),
+            "of {pa:#x}"
+        );
+    }
+    Ok(())
+}

@@ -1,0 +1,11 @@
+//! Tests of `scenario_text`, in a crate of their own: a crate with tests is proved twice.
+#![tactic(auto)]
+
+#[cfg(test)]
+mod formed;
+#[cfg(test)]
+mod lines;
+#[cfg(test)]
+mod numerals;
+#[cfg(test)]
+mod texts;

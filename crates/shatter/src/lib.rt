@@ -1,0 +1,12 @@
+//! Splitting of contiguous blocks (TF-A `gpt_rme`, shattering of contiguous descriptors): the stores that
+//! rewrite one block before a granule in it is changed. Each of them leaves what every granule's word means.
+//! No call takes memory.
+#![tactic(auto)]
+
+mod law;
+mod splitting;
+#[cfg(test)]
+mod tests;
+
+pub use law::splitting_keeps_the_map;
+pub use splitting::Shatter;
