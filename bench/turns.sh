@@ -1,0 +1,174 @@
+#!/usr/bin/env bash
+# Processor time of the turns that `PROGRAM play` plays: of an agent that waits at a held lock, of 2 and
+# of many agents that wait, and of agents that make whole transitions.
+#
+#     bench/turns.sh PROGRAM [RUNS]
+#
+# Each time is that of the fastest of RUNS runs (5 if left out), less that of the same scenario with a
+# schedule of one turn, which is read and built alike. The scenarios that a table compares run by turns.
+# A turn's time should be the same whatever the number of agents: of 31 that wait it may be 1.3 times
+# that of 2.
+#
+# One `round` line gives the agent that holds the lock as many turns as each that waits, and a holder
+# lets its lock go within 13 turns. So it stands last and the line is one round: all others wait until
+# it has its turns, which then are those of an agent that has ended. These are taken off at their price.
+set -euo pipefail
+export LC_ALL=C
+
+readonly program=${1:?usage: bench/turns.sh PROGRAM [RUNS]}
+readonly runs=${2:-5}
+readonly most_turns=20000000
+readonly most_bytes=1048576
+readonly delegate_acts=10
+readonly undelegate_acts=14
+readonly pair_acts=$((delegate_acts + undelegate_acts))
+readonly most_ratio=1.3
+
+folder=$(mktemp -d)
+readonly folder
+trap 'rm -rf "$folder"' EXIT
+
+# The head of a scenario, without contiguous entries.
+head_text() {
+    printf '%s\n' 'gpt 1' 'space 4' 'max 0' 'locks 1' 'first 0' 'ring 8' 'tables 1' 'base 0x80000000' \
+        'region 0x0 0x40000000 granule nonsecure'
+}
+
+# A scenario of so many agents ($1), each with one call at a granule of its own, below one lock.
+short_agents() {
+    local i
+    head_text
+    for ((i = 0; i < $1; i++)); do
+        printf 'agent\ndelegate 0x%x realm\n' $((i * 4096))
+    done
+}
+
+# A scenario of so many agents ($1) with so many pairs each ($2), each at a granule of its own below one
+# lock, or all at the address $3 where there is one.
+pair_agents() {
+    head_text
+    awk -v agents="$1" -v pairs="$2" -v same="${3:-}" 'BEGIN {
+        for (i = 0; i < agents; i++) {
+            print "agent"
+            address = same == "" ? sprintf("0x%x", i * 4096) : same
+            for (k = 0; k < pairs; k++) printf "delegate %s realm\nundelegate %s realm\n", address, address
+        }
+    }'
+}
+
+# Writes a scenario as the file $1, with the callers of standard input and the schedule $2, ..; and as
+# $1.one with one turn.
+scenario() {
+    local name=$folder/$1
+    shift
+    cat >"$name.callers"
+    { cat "$name.callers"; printf '%s\n' "$@" end; } >"$name"
+    { cat "$name.callers"; printf '%s\n' 'turn 0 1' end; } >"$name.one"
+}
+
+# The least processor time of each of the scenarios $1, .., which run by turns, in microseconds. A name
+# is followed by the status that its run is to end with, as in NAME=6.
+least() {
+    python3 -c '
+import os, sys
+program, runs, folder = sys.argv[1], int(sys.argv[2]), sys.argv[3]
+cases = [case.split("=") for case in sys.argv[4:]]
+times = [[] for _ in cases]
+for _ in range(runs):
+    for (name, wanted), kept in zip(cases, times):
+        child = os.fork()
+        if child == 0:
+            os.dup2(os.open(folder + "/" + name, os.O_RDONLY), 0)
+            os.dup2(os.open(folder + "/report", os.O_WRONLY | os.O_CREAT | os.O_TRUNC), 1)
+            os.execv(program, [program, "play"])
+        _, status, used = os.wait4(child, 0)
+        if os.WEXITSTATUS(status) != int(wanted):
+            sys.exit(f"{name}: status {os.WEXITSTATUS(status)}, and not {wanted}")
+        kept.append(used.ru_utime + used.ru_stime)
+print(*(round(min(kept) * 1e6) for kept in times))
+' "$program" "$runs" "$folder" "$@"
+}
+
+heading() {
+    printf '%-50s %10s %10s %8s\n' "$@"
+}
+
+# A line of the table: what it is, its turns or acts, its time in microseconds, and nanoseconds for each.
+row() {
+    awk -v what="$1" -v turns="$2" -v time="$3" \
+        'BEGIN { printf "%-50s %10d %10.1f %8.2f\n", what, turns, time / 1e3, time * 1e3 / turns }'
+}
+
+# The ratio of the price of the turns of many to that of few: times and turns of both.
+ratio() {
+    awk -v many="$1" -v many_turns="$2" -v few="$3" -v few_turns="$4" \
+        'BEGIN { printf "%.2f", many / many_turns / (few / few_turns) }'
+}
+
+# ---- one agent, and many that wait
+
+readonly alone=$((most_turns - 1)) idle=$((most_turns - delegate_acts))
+readonly few=$(((most_turns - 1) / 3)) many=$(((most_turns - 1) / 32))
+short_agents 2 | scenario waits 'turn 0 1' "turn 1 $alone"
+short_agents 2 | scenario ended "turn 0 $delegate_acts" "turn 0 $idle"
+short_agents 3 | scenario few 'turn 2 1' "round $few 1"
+short_agents 32 | scenario many 'turn 31 1' "round $many 1"
+times=$(least waits=6 waits.one=6 ended=6 ended.one=6 few=6 few.one=6 many=6 many.one=6)
+read -r waits waits_one ended ended_one few_time few_one many_time many_one <<<"$times"
+waits=$((waits - waits_one))
+ended=$((ended - ended_one))
+few_time=$((few_time - few_one))
+many_time=$((many_time - many_one))
+few_alone=$((few_time - ended * few / idle))
+many_alone=$((many_time - ended * many / idle))
+
+heading 'turns of one agent' turns 'time ms' 'ns/turn'
+row 'waits at a lock that another holds' "$alone" "$waits"
+row 'has ended' "$idle" "$ended"
+echo
+heading 'one round line, a lock that the last one holds' turns 'time ms' 'ns/turn'
+row '2 agents wait, with the turns of the holder' $((3 * few)) "$few_time"
+row '2 agents wait, without them' $((2 * few)) "$few_alone"
+row '31 agents wait, with the turns of the holder' $((32 * many)) "$many_time"
+row '31 agents wait, without them' $((31 * many)) "$many_alone"
+echo "a turn of 31 that wait to one of 2: ratio $(ratio "$many_alone" $((31 * many)) "$few_alone" $((2 * few))) of at most $most_ratio"
+
+# ---- whole transitions
+
+# A round gives each agent the turns of a pair, so none waits and none has ended. All pairs are at the
+# address 0x0, where one has 40 bytes; the rest of a scenario has less than 600. The same calls at 0x1,
+# which is no granule's address, are answered `inval` without acts, for the price of the answers' lines.
+readonly one_pairs=$(((most_bytes - 600) / 40)) shared_pairs=$(((most_bytes - 600) / 40 / 32))
+pair_agents 1 "$one_pairs" 0x0 | scenario one "round $pair_acts $one_pairs"
+pair_agents 1 "$one_pairs" 0x1 | scenario one_refused 'turn 0 1'
+pair_agents 32 "$shared_pairs" 0x0 | scenario shared "round $pair_acts $shared_pairs"
+pair_agents 32 "$shared_pairs" 0x1 | scenario shared_refused 'turn 0 1'
+times=$(least waits=6 waits.one=6 one=0 one.one=6 one_refused=0 shared=0 shared.one=6 shared_refused=0)
+read -r again again_one one one_one one_refused shared shared_one shared_refused <<<"$times"
+
+echo
+heading 'whole transitions, each turn an act; with printing' acts 'time ms' 'ns/act'
+readonly one_acts=$((one_pairs * pair_acts)) shared_acts=$((32 * shared_pairs * pair_acts))
+row "1 agent, $one_pairs pairs" "$one_acts" $((one - one_one))
+row '  less as many lines "inval"' "$one_acts" $((one - one_refused))
+row "32 agents, $shared_pairs pairs each" "$shared_acts" $((shared - shared_one))
+row '  less as many lines "inval"' "$shared_acts" $((shared - shared_refused))
+row 'beside them: a turn that waits, as above' "$alone" $((again - again_one))
+
+# ---- one acts and the rest wait
+
+# A call takes the lock in the round in which the one before let it go, but where the last agent lets it
+# go. So all have ended after as many rounds as there are acts, less the calls of all agents but one. The
+# lines of the answers are in the times: of 2 agents they are a few nanoseconds a turn.
+readonly two_pairs=$(((most_bytes - 600) / 48 / 2)) all_pairs=$(((most_bytes - 600) / 48 / 32))
+readonly two_rounds=$((2 * two_pairs * pair_acts - 2 * two_pairs))
+readonly all_rounds=$((32 * all_pairs * pair_acts - 31 * 2 * all_pairs))
+pair_agents 2 "$two_pairs" | scenario two "round 1 $two_rounds"
+pair_agents 32 "$all_pairs" | scenario all "round 1 $all_rounds"
+times=$(least two=0 two.one=6 all=0 all.one=6)
+read -r two two_one all all_one <<<"$times"
+
+echo
+heading 'one acts and the rest wait; with printing' turns 'time ms' 'ns/turn'
+row "2 agents, $two_pairs pairs each" $((2 * two_rounds)) $((two - two_one))
+row "32 agents, $all_pairs pairs each" $((32 * all_rounds)) $((all - all_one))
