@@ -4,3 +4,5 @@ pub mod AgentLemmas
 pub mod ScriptLemmas
 pub mod QuietLemmas
 pub mod FieldEntryLemmas
+pub mod NextLemmas
+pub mod FollowLemmas

@@ -1,5 +1,5 @@
 -- Agents walk their script.
-use Rattle.std.proofs.Common.{◌≡◌, ℕ, ◌++◌, ◌∷◌, [], List, Bool, true, false, Option, Some, None, length, drop, append_assoc, append-nil, length-append, refl, sym, ap, ◌∙◌, subst, inl, inr}
+use Rattle.std.proofs.Common.{◌≡◌, ℕ, suc, ◌+◌, ◌++◌, ◌∷◌, [], List, Bool, true, false, Option, Some, None, length, drop, append_assoc, append-nil, length-append, refl, sym, ap, ◌∙◌, subst, inl, inr, arith}
 use Rattle.std.specs.Prelude.{slice_get}
 use Rattle.std.specs.List.{All}
 use Rattle.std.specs.Option.{option_map}
@@ -27,84 +27,90 @@ use Rattle.delegate_ops.specs.declared.stage.Stage.{Stage}
 use Rattle.delegate_ops.specs.declared.stage.Stage.TheVariants as stage
 use Rattle.delegate_ops.specs.Deciding.{address_of, idle_answer, looked_answer, is_granules, generation_in, worn_answer}
 use Rattle.delegate_ops.specs.Changing.{first_change, changed_word}
-use Rattle.delegate_ops.specs.Agents.{AgentData, IsAgent, IsChangeOf, HasActs, is_look, task_of, answered_first, idle_answers, fresh, lock_bit_of, act_at, next_of, looked_stage, read_all, read_stage, raised_stage, kept_read, kept_changed, kept_raised, took_at, took_under_way, took_of}
-use Rattle.delegate_ops.specs.Script.{Event, IsWait, TakesLock, Looks, Reads, Changes, IsChanging, IsReading, reads_before, Decides, Releases, IsCall, AreCallEvents, IsFront, StandsAfter}
+use Rattle.delegate_ops.specs.Agents.{AgentData, IsAgent, IsChangeOf, HasActs, is_look, task_of, answered_first, idle_answers, fresh, act_at, next_of, looked_stage, read_all, read_stage, raised_stage, kept_read, kept_changed, kept_raised, took_at, took_under_way, took_of}
+use Rattle.history.specs.declared.entry.Entry.{Entry}
+use Rattle.delegate_ops.specs.Script.{CallEvent, Step, plain, lock_bit_of, IsWait, TakesLock, Looks, Reads, Changes, completion, change_entry, Decides, Releases, IsCall, AreCallEvents}
+use Rattle.delegate_ops.specs.InnerScript.{IsReading, reads_before, IsChanging, IsPrefix, HasWalked}
+use Rattle.delegate_ops.specs.InnerEntries.{known_entries, made_at}
 use Rattle.delegate_ops.proofs.AgentLemmas.{first_is_change, no_look_at}
 
 -- ---- the answered calls
 
 -- the task under way is answered
-calls_and_one : (g : GeometryData) (tasks : List Task) (answers : List Answer) (calls own : List Event) (t : Task) (a : Answer) → slice_get tasks (length answers) ≡ Some t
-    → IsCall g t (idle_answer g t) a own → AreCallEvents g tasks answers calls → AreCallEvents g tasks (answers ++ a ∷ []) (calls ++ own)
-calls_and_one g [] [] calls own t a here call are = absurd cc
-calls_and_one g (x ∷ tasks) [] calls own t a here call are =
+calls_and_one : (g : GeometryData) (c n : ℕ) (tasks : List Task) (answers : List Answer) (calls own : List CallEvent) (t : Task) (a : Answer) → slice_get tasks (length answers) ≡ Some t
+    → IsCall g c (n + length answers) t (idle_answer g t) a own → AreCallEvents g c n tasks answers calls → AreCallEvents g c n tasks (answers ++ a ∷ []) (calls ++ own)
+calls_and_one g c n [] [] calls own t a here call are = absurd cc
+calls_and_one g c n (x ∷ tasks) [] calls own t a here call are =
     let same : t ≡ x = cc in
-    (own, [], ap (λ (c : List Event). c ++ own) are ∙ sym (append-nil own), subst (λ (y : Task). IsCall g y (idle_answer g y) a own) same call, refl)
-calls_and_one g [] (b ∷ answers) calls own t a here call are = absurd are
-calls_and_one g (x ∷ tasks) (b ∷ answers) calls own t a here call are = (
-  are.0,
-  are.1 ++ own,
-  ap (λ (c : List Event). c ++ own) are.2 ∙ append_assoc are.0 are.1 own,
-  are.3,
-  calls_and_one g tasks answers are.1 own t a here call are.4,
-)
+    let number : n + 0 ≡ n = omega arith in
+    (own, [], ap (λ (es : List CallEvent). es ++ own) are ∙ sym (append-nil own),
+    subst (λ (y : Task). IsCall g c n y (idle_answer g y) a own) same (subst (λ (m : ℕ). IsCall g c m t (idle_answer g t) a own) number call), refl)
+calls_and_one g c n [] (b ∷ answers) calls own t a here call are = absurd are
+calls_and_one g c n (x ∷ tasks) (b ∷ answers) calls own t a here call are =
+    let number : n + suc (length answers) ≡ n + 1 + length answers = omega arith in (
+      are.0,
+      are.1 ++ own,
+      ap (λ (es : List CallEvent). es ++ own) are.2 ∙ append_assoc are.0 are.1 own,
+      are.3,
+      calls_and_one g c (n + 1) tasks answers are.1 own t a here (subst (λ (m : ℕ). IsCall g c m t (idle_answer g t) a own) number call) are.4,
+    )
 
 -- the tasks that have no acts are answered
-idle_first : (g : GeometryData) (t : Task) (tasks : List Task) (idle : Option Answer) → idle_answer g t ≡ idle → AreCallEvents g tasks (idle_answers g tasks) []
-    → AreCallEvents g (t ∷ tasks) (answered_first idle (idle_answers g tasks)) []
-idle_first g t tasks None e rest = refl
-idle_first g t tasks (Some a) e rest = ([], [], refl, subst (λ (o : Option Answer). IsCall g t o a []) (sym e) (refl, refl), rest)
+idle_first : (g : GeometryData) (c n : ℕ) (t : Task) (tasks : List Task) (idle : Option Answer) → idle_answer g t ≡ idle → AreCallEvents g c (n + 1) tasks (idle_answers g tasks) []
+    → AreCallEvents g c n (t ∷ tasks) (answered_first idle (idle_answers g tasks)) []
+idle_first g c n t tasks None e rest = refl
+idle_first g c n t tasks (Some a) e rest = ([], [], refl, subst (λ (o : Option Answer). IsCall g c n t o a []) (sym e) (refl, refl), rest)
 
-all_idle : (g : GeometryData) (tasks : List Task) → AreCallEvents g tasks (idle_answers g tasks) []
-all_idle g [] = refl
-all_idle g (t ∷ tasks) = idle_first g t tasks (idle_answer g t) refl (all_idle g tasks)
+all_idle : (g : GeometryData) (c n : ℕ) (tasks : List Task) → AreCallEvents g c n tasks (idle_answers g tasks) []
+all_idle g c n [] = refl
+all_idle g c n (t ∷ tasks) = idle_first g c n t tasks (idle_answer g t) refl (all_idle g c (n + 1) tasks)
 
-calls_and_idle : (g : GeometryData) (tasks : List Task) (answers : List Answer) (calls : List Event) → AreCallEvents g tasks answers calls
-    → AreCallEvents g tasks (answers ++ idle_answers g (drop (length answers) tasks)) calls
-calls_and_idle g tasks [] calls are = subst (λ (c : List Event). AreCallEvents g tasks (idle_answers g tasks) c) (sym are) (all_idle g tasks)
-calls_and_idle g [] (a ∷ answers) calls are = absurd are
-calls_and_idle g (t ∷ tasks) (a ∷ answers) calls are = (are.0, are.1, are.2, are.3, calls_and_idle g tasks answers are.1 are.4)
+calls_and_idle : (g : GeometryData) (c n : ℕ) (tasks : List Task) (answers : List Answer) (calls : List CallEvent) → AreCallEvents g c n tasks answers calls
+    → AreCallEvents g c n tasks (answers ++ idle_answers g (drop (length answers) tasks)) calls
+calls_and_idle g c n tasks [] calls are = subst (λ (es : List CallEvent). AreCallEvents g c n tasks (idle_answers g tasks) es) (sym are) (all_idle g c n tasks)
+calls_and_idle g c n [] (a ∷ answers) calls are = absurd are
+calls_and_idle g c n (t ∷ tasks) (a ∷ answers) calls are = (are.0, are.1, are.2, are.3, calls_and_idle g c (n + 1) tasks answers are.1 are.4)
 
 -- ---- the call under way
 
 -- before its first act
-no_front : (g : GeometryData) (o : Option Task) → IsFront g stage.Locking o []
-no_front g None = refl
-no_front g (Some t) = All-nil (IsWait g t)
+no_prefix : (g : GeometryData) (c n : ℕ) (o : Option Task) → IsPrefix g c n stage.Locking o []
+no_prefix g c n None = refl
+no_prefix g c n (Some t) = All-nil (IsWait g t)
 
-pub fresh_stands : (g : GeometryData) (tasks : List Task) → StandsAfter (fresh g tasks) []
-fresh_stands g tasks =
-    record { calls = []; front = []; parts = refl; answered = all_idle g tasks; under_way = no_front g (task_of (fresh g tasks)) }
+pub fresh_walked : (g : GeometryData) (tasks : List Task) (c : ℕ) → HasWalked c (fresh g tasks) []
+fresh_walked g tasks c =
+    record { calls = []; last = []; parts = refl; answered = all_idle g c 0 tasks; under_way = no_prefix g c (length (idle_answers g tasks)) (task_of (fresh g tasks)) }
 
 -- an agent with these fields
 abbrev agent : GeometryData → List Task → List Answer → Stage → Bool → AgentData
 agent g tasks answers s waited = record { geometry = g; tasks = tasks; answers = answers; stage = s; waited = waited }
 
 -- the call under way has one event more
-goes_on : (g : GeometryData) (tasks : List Task) (answers : List Answer) (s : Stage) (waited : Bool) (t : Task) (calls front : List Event) (e : Event)
-    → slice_get tasks (length answers) ≡ Some t → AreCallEvents g tasks answers calls → IsFront g s (Some t) (front ++ e ∷ [])
-    → StandsAfter (agent g tasks answers s waited) ((calls ++ front) ++ e ∷ [])
-goes_on g tasks answers s waited t calls front e here are longer = record {
+goes_on : (g : GeometryData) (c : ℕ) (tasks : List Task) (answers : List Answer) (s : Stage) (waited : Bool) (t : Task) (calls last : List CallEvent) (e : CallEvent)
+    → slice_get tasks (length answers) ≡ Some t → AreCallEvents g c 0 tasks answers calls → IsPrefix g c (length answers) s (Some t) (last ++ e ∷ [])
+    → HasWalked c (agent g tasks answers s waited) ((calls ++ last) ++ e ∷ [])
+goes_on g c tasks answers s waited t calls last e here are longer = record {
   calls = calls;
-  front = front ++ e ∷ [];
-  parts = append_assoc calls front (e ∷ []);
+  last = last ++ e ∷ [];
+  parts = append_assoc calls last (e ∷ []);
   answered = are;
-  under_way = subst (λ (o : Option Task). IsFront g s o (front ++ e ∷ [])) (sym here) longer;
+  under_way = subst (λ (o : Option Task). IsPrefix g c (length answers) s o (last ++ e ∷ [])) (sym here) longer;
 }
 
 -- the lock is tried
-locking : (g : GeometryData) (tasks : List Task) (answers : List Answer) (waited : Bool) (t : Task) (calls front : List Event) (old : ℕ)
-    → slice_get tasks (length answers) ≡ Some t → AreCallEvents g tasks answers calls → All (IsWait g t) front
-    → StandsAfter (took_at (agent g tasks answers stage.Locking waited) t stage.Locking old) ((calls ++ front) ++ record { act = take_act (lock_bit_of g t); old = old } ∷ [])
-locking g tasks answers waited t calls front old here are waits =
-    let e : Event = record { act = take_act (lock_bit_of g t); old = old } in
+locking : (g : GeometryData) (c : ℕ) (tasks : List Task) (answers : List Answer) (waited : Bool) (t : Task) (calls last : List CallEvent) (old : ℕ)
+    → slice_get tasks (length answers) ≡ Some t → AreCallEvents g c 0 tasks answers calls → All (IsWait g t) last
+    → HasWalked c (took_at (agent g tasks answers stage.Locking waited) t stage.Locking old) ((calls ++ last) ++ plain (take_act (lock_bit_of g t)) old ∷ [])
+locking g c tasks answers waited t calls last old here are waits =
+    let e : CallEvent = plain (take_act (lock_bit_of g t)) old in
     elim (eqb_tells (bit_and old (lock_bit_of g t).mask) 0) [
       | inl free ↦
           rw free.0
-          (goes_on g tasks answers stage.Looking _ t calls front e here are (record { waits = front; free = old; held = waits; clear = free.1; parts = refl }))
+          (goes_on g c tasks answers stage.Looking _ t calls last e here are (record { waits = last; free = old; held = waits; clear = free.1; parts = refl }))
       | inr held ↦
           rw held.0
-          (goes_on g tasks answers stage.Locking _ t calls front e here are (All-append (IsWait g t) front (e ∷ []) waits (All-cons (IsWait g t) e [] (refl, held.1) (All-nil (IsWait g t)))))
+          (goes_on g c tasks answers stage.Locking _ t calls last e here are (All-append (IsWait g t) last (e ∷ []) waits (All-cons (IsWait g t) e [] (refl, held.1, refl) (All-nil (IsWait g t)))))
     ]
 
 -- an answer that a map gives has what it is of
@@ -112,20 +118,23 @@ pub some_mapped : {X Y : Type 0} (f : X → Y) (o : Option X) (y : Y) → option
 some_mapped f None y e = absurd cc
 some_mapped f (Some x) y e = (x, refl, cc)
 
-looked_front : (g : GeometryData) (t : Task) (word place : ℕ) (o : Option Answer) (events : List Event) → looked_answer g t word ≡ o → Looks g t place word events → IsFront g (looked_stage o word) (Some t) events
-looked_front g t word place None events answers looks =
+looked_prefix : (g : GeometryData) (c n : ℕ) (t : Task) (word place : ℕ) (o : Option Answer) (events : List CallEvent) → looked_answer g t word ≡ o
+    → Looks g t place word (known_entries g c n t o) events → IsPrefix g c n (looked_stage o word) (Some t) events
+looked_prefix g c n t word place None events answers looks =
     record { place = place; looking = events; looked = looks; needed = answers; parts = sym (append-nil events) }
-looked_front g t word place (Some told) events answers looks = inl (record { place = place; word = word; looked = looks; refused = answers })
+looked_prefix g c n t word place (Some told) events answers looks = inl (record { place = place; word = word; looked = looks; refused = answers })
 
-looking : (g : GeometryData) (tasks : List Task) (answers : List Answer) (waited : Bool) (t : Task) (calls front : List Event) (place old : ℕ)
-    → slice_get tasks (length answers) ≡ Some t → AreCallEvents g tasks answers calls → TakesLock g t front → l1_place_of g (address_of t) ≡ Some place
-    → StandsAfter (took_at (agent g tasks answers stage.Looking waited) t stage.Looking old) ((calls ++ front) ++ record { act = act.Load place; old = old } ∷ [])
-looking g tasks answers waited t calls front place old here are locked there =
-    goes_on g tasks answers (looked_stage (looked_answer g t old) old) _ t calls front (record { act = act.Load place; old = old }) here are
-    (looked_front g t old place (looked_answer g t old) (front ++ record { act = act.Load place; old = old } ∷ []) refl (record { locking = front; locked = locked; there = there; parts = refl }))
+looking : (g : GeometryData) (c : ℕ) (tasks : List Task) (answers : List Answer) (waited : Bool) (t : Task) (calls last : List CallEvent) (place old : ℕ)
+    → slice_get tasks (length answers) ≡ Some t → AreCallEvents g c 0 tasks answers calls → TakesLock g t last → l1_place_of g (address_of t) ≡ Some place
+    → HasWalked c (took_at (agent g tasks answers stage.Looking waited) t stage.Looking old)
+    ((calls ++ last) ++ record { act = act.Load place; old = old; made = made_at g c (length answers) stage.Looking (Some t) old } ∷ [])
+looking g c tasks answers waited t calls last place old here are locked there =
+    let e : CallEvent = record { act = act.Load place; old = old; made = made_at g c (length answers) stage.Looking (Some t) old } in
+    goes_on g c tasks answers (looked_stage (looked_answer g t old) old) _ t calls last e here are
+    (looked_prefix g c (length answers) t old place (looked_answer g t old) (last ++ e ∷ []) refl (record { locking = last; locked = locked; there = there; parts = refl }))
 
 -- nothing is made after the loads
-none_made : (g : GeometryData) (t : Task) (k : Kept) (place : ℕ) (events : List Event) → worn_answer k.generations ≡ None → Reads g t place k.word k.generations events → is_granules k.word ≡ true
+none_made : (g : GeometryData) (t : Task) (k : Kept) (place : ℕ) (events : List CallEvent) → worn_answer k.generations ≡ None → Reads g t place k.word k.generations [] events → is_granules k.word ≡ true
     → Changes g t place k [] events
 none_made g t k place events fresh reads granules = record {
   reading = events;
@@ -133,48 +142,48 @@ none_made g t k place events fresh reads granules = record {
   read = reads;
   fresh = fresh;
   granules = granules;
-  acts = refl;
+  steps = refl;
   parts = sym (append-nil events);
 }
 
 -- a transition goes on to its first change
-first_front : (g : GeometryData) (t : Task) (k : Kept) (place : ℕ) (events : List Event) → worn_answer k.generations ≡ None → l1_place_of g (address_of t) ≡ Some place
-    → IsChangeOf t (first_change t) → Reads g t place k.word k.generations events → is_granules k.word ≡ true → IsFront g (stage.Changing (first_change t) k) (Some t) events
-first_front g (task.Delegate pa source) k place events fresh there change reads granules =
+first_prefix : (g : GeometryData) (c n : ℕ) (t : Task) (k : Kept) (place : ℕ) (events : List CallEvent) → worn_answer k.generations ≡ None → l1_place_of g (address_of t) ≡ Some place
+    → IsChangeOf t (first_change t) → Reads g t place k.word k.generations [] events → is_granules k.word ≡ true → IsPrefix g c n (stage.Changing (first_change t) k) (Some t) events
+first_prefix g c n (task.Delegate pa source) k place events fresh there change reads granules =
     (place, there, record { kept = k; made = []; changes = none_made g (task.Delegate pa source) k place events fresh reads granules; whole = append-nil _; is = refl })
-first_front g (task.Undelegate pa source) k place events fresh there change reads granules =
+first_prefix g c n (task.Undelegate pa source) k place events fresh there change reads granules =
     (place, there, record { kept = k; made = []; changes = none_made g (task.Undelegate pa source) k place events fresh reads granules; whole = refl; is = refl })
-first_front g task.Unknown k place events fresh there change reads granules = absurd change
-first_front g (task.Look pa space) k place events fresh there change reads granules = absurd change
+first_prefix g c n task.Unknown k place events fresh there change reads granules = absurd change
+first_prefix g c n (task.Look pa space) k place events fresh there change reads granules = absurd change
 
 -- a generation is loaded
-read_all_front : (g : GeometryData) (t : Task) (k : Kept) (place : ℕ) (o : Option Answer) (events : List Event) → worn_answer k.generations ≡ o → l1_place_of g (address_of t) ≡ Some place
-    → IsChangeOf t (first_change t) → Reads g t place k.word k.generations events → IsFront g (read_all o t k) (Some t) events
-read_all_front g t k place None events fresh there change reads =
+read_all_prefix : (g : GeometryData) (c n : ℕ) (t : Task) (k : Kept) (place : ℕ) (o : Option Answer) (events : List CallEvent) → worn_answer k.generations ≡ o → l1_place_of g (address_of t) ≡ Some place
+    → IsChangeOf t (first_change t) → Reads g t place k.word k.generations (known_entries g c n t o) events → IsPrefix g c n (read_all o t k) (Some t) events
+read_all_prefix g c n t k place None events fresh there change reads =
     elim (cases_Bool (is_granules k.word)) [
-      | inl granules ↦ rw granules (first_front g t k place events fresh there change reads granules)
+      | inl granules ↦ rw granules (first_prefix g c n t k place events fresh there change reads granules)
       | inr contiguous ↦ rw contiguous (record { place = place; word = k.word; generations = k.generations; read = reads; fresh = fresh; contiguous = contiguous })
     ]
-read_all_front g t k place (Some told) events worn there change reads = inr (inl (record { place = place; word = k.word; generations = k.generations; read = reads; worn = worn }))
+read_all_prefix g c n t k place (Some told) events worn there change reads = inr (inl (record { place = place; word = k.word; generations = k.generations; read = reads; worn = worn }))
 
-read_front : (g : GeometryData) (t : Task) (z : Size) (k : Kept) (old : ℕ) (events : List Event) → idle_answer g t ≡ None → is_look t ≡ false → IsReading g t z k events
-    → IsFront g (read_stage t z (kept_read z old k)) (Some t) (events ++ record { act = gen_load_of g z (address_of t); old = old } ∷ [])
-read_front g t size.Two k old events acts no_look reading = record {
+read_prefix : (g : GeometryData) (c n : ℕ) (t : Task) (z : Size) (k : Kept) (old : ℕ) (events : List CallEvent) → idle_answer g t ≡ None → is_look t ≡ false → IsReading g t z k events
+    → IsPrefix g c n (read_stage t z (kept_read z old k)) (Some t) (events ++ record { act = gen_load_of g z (address_of t); old = old; made = made_at g c n (stage.Reading z k) (Some t) old } ∷ [])
+read_prefix g c n t size.Two k old events acts no_look reading = record {
   place = reading.place;
   looking = reading.looking;
   looked = reading.looked;
   needed = reading.needed;
   parts = rw (reading.parts, append-nil reading.looking) refl;
 }
-read_front g t size.ThirtyTwo k old events acts no_look reading = record {
+read_prefix g c n t size.ThirtyTwo k old events acts no_look reading = record {
   place = reading.place;
   looking = reading.looking;
   looked = reading.looked;
   needed = reading.needed;
   parts = rw reading.parts (append_assoc reading.looking (reads_before g (address_of t) size.ThirtyTwo k.generations) _);
 }
-read_front g t size.FiveTwelve k old events acts no_look reading =
-    read_all_front g t (kept_read size.FiveTwelve old k) reading.place (worn_answer (kept_read size.FiveTwelve old k).generations) _ refl reading.looked.there (first_is_change g t acts no_look)
+read_prefix g c n t size.FiveTwelve k old events acts no_look reading =
+    read_all_prefix g c n t (kept_read size.FiveTwelve old k) reading.place (worn_answer (kept_read size.FiveTwelve old k).generations) _ refl reading.looked.there (first_is_change g t acts no_look)
     (record {
       looking = reading.looking;
       looked = reading.looked;
@@ -182,101 +191,111 @@ read_front g t size.FiveTwelve k old events acts no_look reading =
       parts = rw reading.parts (append_assoc reading.looking (reads_before g (address_of t) size.FiveTwelve k.generations) _);
     })
 
--- the granule is changed, or a generation raised: the first act to come is made
-one_made : (g : GeometryData) (t : Task) (place : ℕ) (next : Act) (old : ℕ) (to_come : List Act) (last : Generations) (events : List Event) → IsChanging g t place (next ∷ to_come) last events
-    → IsChanging g t place to_come last (events ++ record { act = next; old = old } ∷ [])
-one_made g t place next old to_come last events changing = record {
-  kept = changing.kept;
-  made = changing.made ++ next ∷ [];
-  changes = record {
-    reading = changing.changes.reading;
-    changing = changing.changes.changing ++ record { act = next; old = old } ∷ [];
-    read = changing.changes.read;
-    fresh = changing.changes.fresh;
-    granules = changing.changes.granules;
-    acts = map-append (λ (e : Event). e.act) changing.changes.changing (record { act = next; old = old } ∷ []) ∙ ap (λ (acts : List Act). acts ++ next ∷ []) changing.changes.acts;
-    parts = ap (λ (es : List Event). es ++ record { act = next; old = old } ∷ []) changing.changes.parts
-        ∙ append_assoc changing.changes.reading changing.changes.changing (record { act = next; old = old } ∷ []);
-  };
-  whole = append_assoc changing.made (next ∷ []) to_come ∙ changing.whole;
-  is = changing.is;
-}
+-- the granule is changed, or a generation raised: the first step to come is made
+pub one_made : (g : GeometryData) (c n : ℕ) (t : Task) (place : ℕ) (next : Step) (old : ℕ) (to_come : List Step) (last : Generations) (events : List CallEvent)
+    → IsChanging g c n t place (next ∷ to_come) last events
+    → IsChanging g c n t place to_come last (events ++ record { act = next.act; old = old; made = next.made } ∷ [])
+one_made g c n t place next old to_come last events changing =
+    let e : CallEvent = record { act = next.act; old = old; made = next.made } in
+    record {
+      kept = changing.kept;
+      made = changing.made ++ next ∷ [];
+      changes = record {
+        reading = changing.changes.reading;
+        changing = changing.changes.changing ++ e ∷ [];
+        read = changing.changes.read;
+        fresh = changing.changes.fresh;
+        granules = changing.changes.granules;
+        steps = map-append (λ (x : CallEvent). record { act = x.act; made = x.made }) changing.changes.changing (e ∷ []) ∙ ap (λ (steps : List Step). steps ++ next ∷ []) changing.changes.steps;
+        parts = ap (λ (es : List CallEvent). es ++ e ∷ []) changing.changes.parts
+            ∙ append_assoc changing.changes.reading changing.changes.changing (e ∷ []);
+      };
+      whole = append_assoc changing.made (next ∷ []) to_come ∙ changing.whole;
+      is = changing.is;
+    }
 
-raised_front : (g : GeometryData) (t : Task) (c : Change) (z : Size) (k : Kept) (old : ℕ) (events : List Event) → IsFront g (stage.Raising c z k) (Some t) events
-    → IsFront g (raised_stage c z (kept_raised z k)) (Some t) (events ++ record { act = gen_raise_of g z (address_of t) (generation_in z k.generations); old = old } ∷ [])
-raised_front g t c size.Two k old events front = (front.0, front.1, one_made g t front.0 _ old _ _ events front.2)
-raised_front g t c size.ThirtyTwo k old events front = (front.0, front.1, one_made g t front.0 _ old _ _ events front.2)
-raised_front g t change.First size.FiveTwelve k old events front = (front.0, front.1, one_made g t front.0 _ old _ _ events front.2)
-raised_front g t change.Last size.FiveTwelve k old events front =
-    let all = one_made g t front.0 (gen_raise_of g size.FiveTwelve (address_of t) k.generations.five_twelve) old [] _ events front.2 in
+raised_prefix : (g : GeometryData) (c n : ℕ) (t : Task) (ch : Change) (z : Size) (k : Kept) (old : ℕ) (events : List CallEvent) → IsPrefix g c n (stage.Raising ch z k) (Some t) events
+    → IsPrefix g c n (raised_stage ch z (kept_raised z k)) (Some t)
+    (events ++ record { act = gen_raise_of g z (address_of t) (generation_in z k.generations); old = old; made = made_at g c n (stage.Raising ch z k) (Some t) old } ∷ [])
+raised_prefix g c n t ch size.Two k old events prefix = (prefix.0, prefix.1, one_made g c n t prefix.0 _ old _ _ events prefix.2)
+raised_prefix g c n t ch size.ThirtyTwo k old events prefix = (prefix.0, prefix.1, one_made g c n t prefix.0 _ old _ _ events prefix.2)
+raised_prefix g c n t change.First size.FiveTwelve k old events prefix = (prefix.0, prefix.1, one_made g c n t prefix.0 _ old _ _ events prefix.2)
+raised_prefix g c n t change.Last size.FiveTwelve k old events prefix =
+    let step : Step = record { act = gen_raise_of g size.FiveTwelve (address_of t) k.generations.five_twelve; made = completion g c n t ∷ [] } in
+    let all = one_made g c n t prefix.0 step old [] _ events prefix.2 in
     inr (inr (record {
-      place = front.0;
+      place = prefix.0;
       kept = all.kept;
-      changes = subst (λ (acts : List Act). Changes g t front.0 all.kept acts (events ++ record { act = gen_raise_of g size.FiveTwelve (address_of t) k.generations.five_twelve; old = old } ∷ []))
+      changes = subst (λ (steps : List Step). Changes g t prefix.0 all.kept steps (events ++ record { act = step.act; old = old; made = step.made } ∷ []))
           (sym (append-nil all.made) ∙ all.whole) all.changes;
       is = ap answer.Done all.is;
     }))
 
 -- the lock is released, and the call is answered
-answered : (g : GeometryData) (tasks : List Task) (answers : List Answer) (waited : Bool) (t : Task) (a : Answer) (calls front : List Event) (old : ℕ)
-    → slice_get tasks (length answers) ≡ Some t → idle_answer g t ≡ None → AreCallEvents g tasks answers calls → Decides g t (Some a) front
-    → StandsAfter (took_at (agent g tasks answers (stage.Releasing (Some a)) waited) t (stage.Releasing (Some a)) old) ((calls ++ front) ++ record { act = release_act (lock_bit_of g t); old = old } ∷ [])
-answered g tasks answers waited t a calls front old here acts are decided =
-    let e : Event = record { act = release_act (lock_bit_of g t); old = old } in
-    let own : List Event = front ++ e ∷ [] in
-    let released : Releases g t (Some a) own = record { deciding = front; left = old; decided = decided; parts = refl } in
-    let one : AreCallEvents g tasks (answers ++ a ∷ []) (calls ++ own) = calls_and_one g tasks answers calls own t a here (subst (λ (o : Option Answer). IsCall g t o a own) (sym acts) released) are in
-    let idle = calls_and_idle g tasks (answers ++ a ∷ []) (calls ++ own) one in
+answered : (g : GeometryData) (c : ℕ) (tasks : List Task) (answers : List Answer) (waited : Bool) (t : Task) (a : Answer) (calls last : List CallEvent) (old : ℕ)
+    → slice_get tasks (length answers) ≡ Some t → idle_answer g t ≡ None → AreCallEvents g c 0 tasks answers calls → Decides g c (length answers) t (Some a) last
+    → HasWalked c (took_at (agent g tasks answers (stage.Releasing (Some a)) waited) t (stage.Releasing (Some a)) old) ((calls ++ last) ++ plain (release_act (lock_bit_of g t)) old ∷ [])
+answered g c tasks answers waited t a calls last old here acts are decided =
+    let e : CallEvent = plain (release_act (lock_bit_of g t)) old in
+    let own : List CallEvent = last ++ e ∷ [] in
+    let number : length answers ≡ 0 + length answers = omega arith in
+    let released : Releases g c (length answers) t (Some a) own = record { deciding = last; left = old; decided = decided; parts = refl } in
+    let call : IsCall g c (0 + length answers) t (idle_answer g t) a own = subst (λ (o : Option Answer). IsCall g c (0 + length answers) t o a own) (sym acts) (subst (λ (m : ℕ). Releases g c m t (Some a) own) number released) in
+    let one : AreCallEvents g c 0 tasks (answers ++ a ∷ []) (calls ++ own) = calls_and_one g c 0 tasks answers calls own t a here call are in
+    let idle = calls_and_idle g c 0 tasks (answers ++ a ∷ []) (calls ++ own) one in
     record {
       calls = calls ++ own;
-      front = [];
-      parts = append_assoc calls front (e ∷ []) ∙ sym (append-nil (calls ++ own));
-      answered = subst (λ (n : ℕ). AreCallEvents g tasks ((answers ++ a ∷ []) ++ idle_answers g (drop n tasks)) (calls ++ own)) (length-append answers (a ∷ [])) idle;
-      under_way = no_front g _;
+      last = [];
+      parts = append_assoc calls last (e ∷ []) ∙ sym (append-nil (calls ++ own));
+      answered = subst (λ (m : ℕ). AreCallEvents g c 0 tasks ((answers ++ a ∷ []) ++ idle_answers g (drop m tasks)) (calls ++ own)) (length-append answers (a ∷ [])) idle;
+      under_way = no_prefix g c (length ((answers ++ a ∷ []) ++ idle_answers g (drop (length answers + 1) tasks))) _;
     }
 
 -- ---- a next act
 
 -- any act at any stage of a task with acts
-walks : (g : GeometryData) (tasks : List Task) (answers : List Answer) (s : Stage) (waited : Bool) (t : Task) (calls front : List Event) (next : Act) (old : ℕ)
-    → slice_get tasks (length answers) ≡ Some t → idle_answer g t ≡ None → is_look t ≡ false → AreCallEvents g tasks answers calls → IsFront g s (Some t) front → act_at g s t ≡ Some next
-    → StandsAfter (took_at (agent g tasks answers s waited) t s old) ((calls ++ front) ++ record { act = next; old = old } ∷ [])
-walks g tasks answers stage.Locking waited t calls front next old here acts no_look are front_is e =
+walks : (g : GeometryData) (c : ℕ) (tasks : List Task) (answers : List Answer) (s : Stage) (waited : Bool) (t : Task) (calls last : List CallEvent) (next : Act) (old : ℕ)
+    → slice_get tasks (length answers) ≡ Some t → idle_answer g t ≡ None → is_look t ≡ false → AreCallEvents g c 0 tasks answers calls → IsPrefix g c (length answers) s (Some t) last → act_at g s t ≡ Some next
+    → HasWalked c (took_at (agent g tasks answers s waited) t s old) ((calls ++ last) ++ record { act = next; old = old; made = made_at g c (length answers) s (Some t) old } ∷ [])
+walks g c tasks answers stage.Locking waited t calls last next old here acts no_look are prefix e =
     let same : take_act (lock_bit_of g t) ≡ next = cc in
-    rw (← same) (locking g tasks answers waited t calls front old here are front_is)
-walks g tasks answers stage.Looking waited t calls front next old here acts no_look are front_is e =
+    rw (← same) (locking g c tasks answers waited t calls last old here are prefix)
+walks g c tasks answers stage.Looking waited t calls last next old here acts no_look are prefix e =
     let load = some_mapped act.Load (l1_place_of g (address_of t)) next e in
-    rw (← load.2) (looking g tasks answers waited t calls front load.0 old here are front_is load.1)
-walks g tasks answers (stage.Reading z k) waited t calls front next old here acts no_look are front_is e =
+    rw (← load.2) (looking g c tasks answers waited t calls last load.0 old here are prefix load.1)
+walks g c tasks answers (stage.Reading z k) waited t calls last next old here acts no_look are prefix e =
     let same : gen_load_of g z (address_of t) ≡ next = cc in
-    rw (← same) (goes_on g tasks answers (read_stage t z (kept_read z old k)) _ t calls front (record { act = gen_load_of g z (address_of t); old = old }) here are (read_front g t z k old front acts no_look front_is))
-walks g tasks answers (stage.Changing c k) waited t calls front next old here acts no_look are front_is e =
-    let store = some_mapped (λ place. act.Store place (changed_word g t c k.word)) (l1_place_of g (address_of t)) next e in
-    let same : store.0 ≡ front_is.0 = let both : Some store.0 ≡ Some front_is.0 = sym store.1 ∙ front_is.1 in cc in
-    rw (← store.2, same) (goes_on g tasks answers (stage.Raising c size.Two (kept_changed g t c k)) _ t calls front (record { act = act.Store front_is.0 (changed_word g t c k.word); old = old }) here are
-    (front_is.0, front_is.1, one_made g t front_is.0 _ old _ _ front front_is.2))
-walks g tasks answers (stage.Raising c z k) waited t calls front next old here acts no_look are front_is e =
+    let event : CallEvent = record { act = gen_load_of g z (address_of t); old = old; made = made_at g c (length answers) (stage.Reading z k) (Some t) old } in
+    rw (← same) (goes_on g c tasks answers (read_stage t z (kept_read z old k)) _ t calls last event here are (read_prefix g c (length answers) t z k old last acts no_look prefix))
+walks g c tasks answers (stage.Changing ch k) waited t calls last next old here acts no_look are prefix e =
+    let store = some_mapped (λ place. act.Store place (changed_word g t ch k.word)) (l1_place_of g (address_of t)) next e in
+    let same : store.0 ≡ prefix.0 = let both : Some store.0 ≡ Some prefix.0 = sym store.1 ∙ prefix.1 in cc in
+    let event : CallEvent = record { act = act.Store prefix.0 (changed_word g t ch k.word); old = old; made = change_entry g c (length answers) t ch ∷ [] } in
+    rw (← store.2, same) (goes_on g c tasks answers (stage.Raising ch size.Two (kept_changed g t ch k)) _ t calls last event here are
+    (prefix.0, prefix.1, one_made g c (length answers) t prefix.0 _ old _ _ last prefix.2))
+walks g c tasks answers (stage.Raising ch z k) waited t calls last next old here acts no_look are prefix e =
     let same : gen_raise_of g z (address_of t) (generation_in z k.generations) ≡ next = cc in
-    rw (← same) (goes_on g tasks answers (raised_stage c z (kept_raised z k)) _ t calls front (record { act = gen_raise_of g z (address_of t) (generation_in z k.generations); old = old }) here are
-    (raised_front g t c z k old front front_is))
-walks g tasks answers (stage.Releasing (Some a)) waited t calls front next old here acts no_look are front_is e =
+    let event : CallEvent = record { act = gen_raise_of g z (address_of t) (generation_in z k.generations); old = old; made = made_at g c (length answers) (stage.Raising ch z k) (Some t) old } in
+    rw (← same) (goes_on g c tasks answers (raised_stage ch z (kept_raised z k)) _ t calls last event here are
+    (raised_prefix g c (length answers) t ch z k old last prefix))
+walks g c tasks answers (stage.Releasing (Some a)) waited t calls last next old here acts no_look are prefix e =
     let same : release_act (lock_bit_of g t) ≡ next = cc in
-    rw (← same) (answered g tasks answers waited t a calls front old here acts are front_is)
-walks g tasks answers (stage.Releasing None) waited t calls front next old here acts no_look are front_is e =
+    rw (← same) (answered g c tasks answers waited t a calls last old here acts are prefix)
+walks g c tasks answers (stage.Releasing None) waited t calls last next old here acts no_look are prefix e =
     let same : release_act (lock_bit_of g t) ≡ next = cc in
-    rw (← same) (goes_on g tasks answers stage.Stopped _ t calls front (record { act = release_act (lock_bit_of g t); old = old }) here are (record { deciding = front; left = old; decided = front_is; parts = refl }))
-walks g tasks answers stage.Stopped waited t calls front next old here acts no_look are front_is e = absurd cc
+    rw (← same) (goes_on g c tasks answers stage.Stopped _ t calls last (plain (release_act (lock_bit_of g t)) old) here are (record { deciding = last; left = old; decided = prefix; parts = refl }))
+walks g c tasks answers stage.Stopped waited t calls last next old here acts no_look are prefix e = absurd cc
 
 -- with or without a task under way
-took_walks : (a : AgentData) (o : Option Task) (calls front : List Event) (next : Act) (old : ℕ) → IsAgent a → task_of a ≡ o
-    → AreCallEvents a.geometry a.tasks a.answers calls → IsFront a.geometry a.stage o front → next_of a ≡ Some next
-    → StandsAfter (took_under_way a o old) ((calls ++ front) ++ record { act = next; old = old } ∷ [])
-took_walks a None calls front next old is here are front_is e = absurd (let both = rw here at e in cc)
-took_walks a (Some t) calls front next old is here are front_is e =
-    walks a.geometry a.tasks a.answers a.stage a.waited t calls front next old here (subst (HasActs a.geometry) here is.acts) (no_look_at a t is here) are front_is (rw here at e)
+took_walks : (c : ℕ) (a : AgentData) (o : Option Task) (calls last : List CallEvent) (next : Act) (old : ℕ) → IsAgent a → task_of a ≡ o
+    → AreCallEvents a.geometry c 0 a.tasks a.answers calls → IsPrefix a.geometry c (length a.answers) a.stage o last → next_of a ≡ Some next
+    → HasWalked c (took_under_way a o old) ((calls ++ last) ++ record { act = next; old = old; made = made_at a.geometry c (length a.answers) a.stage o old } ∷ [])
+took_walks c a None calls last next old is here are prefix e = absurd (let both = rw here at e in cc)
+took_walks c a (Some t) calls last next old is here are prefix e =
+    walks a.geometry c a.tasks a.answers a.stage a.waited t calls last next old here (subst (HasActs a.geometry) here is.acts) (no_look_at a t is here) are prefix (rw here at e)
 
-pub step_walks : (a : AgentData) (events : List Event) (next : Act) (old : ℕ) → IsAgent a → StandsAfter a events → next_of a ≡ Some next
-    → StandsAfter (took_of a old) (events ++ record { act = next; old = old } ∷ [])
-step_walks a events next old is stands e =
-    subst (λ (h : List Event). StandsAfter (took_of a old) (h ++ record { act = next; old = old } ∷ [])) (sym stands.parts)
-    (took_walks a (task_of a) stands.calls stands.front next old is refl stands.answered stands.under_way e)
+pub step_walks : (c : ℕ) (a : AgentData) (events : List CallEvent) (next : Act) (old : ℕ) → IsAgent a → HasWalked c a events → next_of a ≡ Some next
+    → HasWalked c (took_of a old) (events ++ record { act = next; old = old; made = made_at a.geometry c (length a.answers) a.stage (task_of a) old } ∷ [])
+step_walks c a events next old is walked e =
+    subst (λ (es : List CallEvent). HasWalked c (took_of a old) (es ++ record { act = next; old = old; made = made_at a.geometry c (length a.answers) a.stage (task_of a) old } ∷ [])) (sym walked.parts)
+    (took_walks c a (task_of a) walked.calls walked.last next old is refl walked.answered walked.under_way e)

@@ -1,5 +1,5 @@
 -- An agent as plain data, its next act, and the agent after an act.
-use Rattle.std.specs.Prelude.{◌≡◌, ℕ, ◌+◌, ◌≤◌, Bool, true, false, not, List, [], ◌∷◌, ◌++◌, length, drop, slice_get, Option, Some, None, ◌==◌, if◌then◌else◌, IsTrue, is_some, option_and_then}
+use Rattle.std.specs.Prelude.{◌≡◌, ℕ, ◌+◌, ◌≤◌, Bool, true, false, not, ◌||◌, List, [], ◌∷◌, ◌++◌, length, drop, slice_get, Option, Some, None, ◌==◌, if◌then◌else◌, IsTrue, is_some, option_and_then}
 use Rattle.std.specs.List.{All}
 use Rattle.std.specs.Option.{option_map}
 use Rattle.std.specs.Int.Bits.{bit_and}
@@ -11,8 +11,7 @@ use Rattle.gpt_descriptors.specs.Entries.{l1_entry}
 use Rattle.gpt_descriptors.specs.Places.{GeometryData, IsGeometry, l1_place_of}
 use Rattle.shared_words.specs.declared.act.Act.{Act}
 use Rattle.shared_words.specs.declared.act.Act.TheVariants as act
-use Rattle.bit_locks.specs.declared.lock.Bit.{Bit}
-use Rattle.bit_locks.specs.Locks.{lock_number, bit_with, take_act, release_act}
+use Rattle.bit_locks.specs.Locks.{take_act, release_act}
 use Rattle.invalidate.specs.Generations.{gen_load_of, gen_raise_of}
 use Rattle.history.specs.declared.call.Task.{Task}
 use Rattle.history.specs.declared.call.Task.TheVariants as task
@@ -25,6 +24,7 @@ use Rattle.delegate_ops.specs.declared.stage.Stage.{Stage}
 use Rattle.delegate_ops.specs.declared.stage.Stage.TheVariants as stage
 use Rattle.delegate_ops.specs.Deciding.{address_of, idle_answer, looked_answer, is_granules, generation_in, worn_answer}
 use Rattle.delegate_ops.specs.Changing.{first_change, changed_word, with_generation, raised_at}
+use Rattle.delegate_ops.specs.Script.{lock_bit_of}
 
 pub record AgentData : Type 0 where
   pub geometry : GeometryData
@@ -59,9 +59,6 @@ fresh g tasks = record { geometry = g; tasks = tasks; answers = idle_answers g t
 
 -- ---- acts
 
-abbrev pub lock_bit_of : GeometryData → Task → Bit
-lock_bit_of g t = bit_with (lock_number g.setup (address_of t))
-
 -- the next act of a task at a stage
 abbrev pub act_at : GeometryData → Stage → Task → Option Act
 act_at g stage.Locking t = Some (take_act (lock_bit_of g t))
@@ -71,6 +68,15 @@ act_at g (stage.Changing c k) t = option_map (λ place. act.Store place (changed
 act_at g (stage.Raising c z k) t = Some (gen_raise_of g z (address_of t) (generation_in z k.generations))
 act_at g (stage.Releasing answer) t = Some (release_act (lock_bit_of g t))
 act_at g stage.Stopped t = None
+
+-- the call under way has found a contiguous entry, and makes no further act
+abbrev pub has_stopped : Stage → Bool
+has_stopped stage.Stopped = true
+has_stopped s = false
+
+-- each task is answered, or the agent has stopped
+abbrev pub has_ended : AgentData → Bool
+has_ended a = not (is_some (task_of a)) || has_stopped a.stage
 
 -- the next act of an agent
 abbrev pub next_of : AgentData → Option Act

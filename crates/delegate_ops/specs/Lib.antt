@@ -1,5 +1,7 @@
 pub mod Deciding
 pub mod Changing
-pub mod Agents
 pub mod Script
 pub mod Quiet
+pub mod Agents
+pub mod InnerScript
+pub mod InnerEntries

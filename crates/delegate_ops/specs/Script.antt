@@ -1,226 +1,227 @@
--- The script of a transition: its acts in their order, each with the word that it answered. The steps of
--- an agent are shown to walk it. Splitting, cleaning, the barrier and merging are not in it yet: a
--- transition that finds a contiguous entry stops before it changes anything.
-use Rattle.std.specs.Prelude.{◌≡◌, ◌≢◌, ◌⊎◌, ℕ, true, false, List, [], ◌∷◌, ◌++◌, map, Option, Some, None}
+-- The script of a transition: its acts in their order, each with the word that it answered and the entries
+-- that it makes in the history (TF-A, gpt_delegate_pas and gpt_undelegate_pas). An agent is shown to follow
+-- it. Splitting, cleaning, the barrier and merging are not in it yet: a transition that finds a contiguous
+-- entry releases its lock and stops before it changes anything.
+use Rattle.std.specs.Prelude.{◌≡◌, ◌≢◌, ◌⊎◌, ℕ, ◌+◌, ◌/◌, false, true, List, [], ◌∷◌, ◌++◌, length, map, slice_get, Option, Some, None, MatchOption}
 use Rattle.std.specs.List.{All}
 use Rattle.std.specs.Int.Bits.{bit_and}
 use Rattle.gpt_descriptors.specs.declared.size.Size.{Size}
 use Rattle.gpt_descriptors.specs.declared.size.Size.TheVariants as size
 use Rattle.gpt_descriptors.specs.declared.size.Generations.{Generations}
+use Rattle.gpt_descriptors.specs.Sizes.{granule_bytes}
 use Rattle.gpt_descriptors.specs.Places.{GeometryData, l1_place_of}
 use Rattle.shared_words.specs.declared.act.Act.{Act}
 use Rattle.shared_words.specs.declared.act.Act.TheVariants as act
-use Rattle.bit_locks.specs.Locks.{take_act, release_act}
+use Rattle.bit_locks.specs.declared.lock.Bit.{Bit}
+use Rattle.bit_locks.specs.Locks.{lock_number, bit_with, take_act, release_act}
 use Rattle.invalidate.specs.Generations.{gen_load_of, gen_raise_of}
 use Rattle.history.specs.declared.call.Task.{Task}
 use Rattle.history.specs.declared.call.Task.TheVariants as task
 use Rattle.history.specs.declared.call.Answer.{Answer}
 use Rattle.history.specs.declared.call.Answer.TheVariants as answer
+use Rattle.history.specs.declared.entry.Entry.{Entry}
+use Rattle.history.specs.declared.entry.Entry.TheVariants as entry
+use Rattle.history.specs.Calls.{call_entries}
 use Rattle.delegate_ops.specs.declared.stage.Change.{Change}
 use Rattle.delegate_ops.specs.declared.stage.Change.TheVariants as change
 use Rattle.delegate_ops.specs.declared.stage.Kept.{Kept}
-use Rattle.delegate_ops.specs.declared.stage.Stage.{Stage}
-use Rattle.delegate_ops.specs.declared.stage.Stage.TheVariants as stage
 use Rattle.delegate_ops.specs.Deciding.{address_of, idle_answer, looked_answer, is_granules, worn_answer}
-use Rattle.delegate_ops.specs.Changing.{changed_word, raised_at, raised}
-use Rattle.delegate_ops.specs.Agents.{AgentData, lock_bit_of, task_of}
+use Rattle.delegate_ops.specs.Changing.{from_of, to_of, changed_word, raised}
 
--- an act and the word that it answered
-pub record Event : Type 0 where
+-- an event of a call: an act, the word that it answered, and the entries that it makes
+pub record CallEvent : Type 0 where
   pub act : Act
   pub old : ℕ
+  pub made : List Entry
 
-abbrev pub acts_in : List Event → List Act
-acts_in events = map (λ e. e.act) events
+-- a step of the script: an act and the entries that it makes
+pub record Step : Type 0 where
+  pub act : Act
+  pub made : List Entry
+
+abbrev pub steps_in : List CallEvent → List Step
+steps_in events = map (λ e. record { act = e.act; made = e.made }) events
+
+-- an event, and a step, without entries
+abbrev pub plain : Act → ℕ → CallEvent
+plain act old = record { act = act; old = old; made = [] }
+
+abbrev pub plain_step : Act → Step
+plain_step act = record { act = act; made = [] }
 
 -- ---- the parts of a transition
 
+-- the lock bit of a task's address
+abbrev pub lock_bit_of : GeometryData → Task → Bit
+lock_bit_of g t = bit_with (lock_number g.setup (address_of t))
+
+-- the granule of a task
+abbrev pub granule_of_task : GeometryData → Task → ℕ
+granule_of_task g t = address_of t / granule_bytes g.setup
+
 -- the lock was tried and wasn't free
-abbrev pub IsWait : GeometryData → Task → Event → Type 0
-IsWait g t e = (e.act ≡ take_act (lock_bit_of g t)) × (bit_and e.old (lock_bit_of g t).mask ≢ 0)
+abbrev pub IsWait : GeometryData → Task → CallEvent → Type 0
+IsWait g t e = (e.act ≡ take_act (lock_bit_of g t)) × (bit_and e.old (lock_bit_of g t).mask ≢ 0) × (e.made ≡ [])
 
 -- first, the lock is tried until it was free
-pub record TakesLock (g : GeometryData) (t : Task) (events : List Event) : Type 0 where
-  pub waits : List Event
+pub record TakesLock (g : GeometryData) (t : Task) (events : List CallEvent) : Type 0 where
+  pub waits : List CallEvent
   pub free : ℕ
   pub held : All (IsWait g t) waits
   pub clear : bit_and free (lock_bit_of g t).mask ≡ 0
-  pub parts : events ≡ waits ++ record { act = take_act (lock_bit_of g t); old = free } ∷ []
+  pub parts : events ≡ waits ++ plain (take_act (lock_bit_of g t)) free ∷ []
 
 -- second, the L1 word is loaded
-pub record Looks (g : GeometryData) (t : Task) (place word : ℕ) (events : List Event) : Type 0 where
-  pub locking : List Event
+pub record Looks (g : GeometryData) (t : Task) (place word : ℕ) (made : List Entry) (events : List CallEvent) : Type 0 where
+  pub locking : List CallEvent
   pub locked : TakesLock g t locking
   pub there : l1_place_of g (address_of t) ≡ Some place
-  pub parts : events ≡ locking ++ record { act = act.Load place; old = word } ∷ []
+  pub parts : events ≡ locking ++ record { act = act.Load place; old = word; made = made } ∷ []
 
 -- third, where it has the needed GPI, the three generations are loaded
-abbrev pub reads : GeometryData → ℕ → Generations → List Event
-reads g pa k =
-    record { act = gen_load_of g size.Two pa; old = k.two }
-    ∷ record { act = gen_load_of g size.ThirtyTwo pa; old = k.thirty_two }
-    ∷ record { act = gen_load_of g size.FiveTwelve pa; old = k.five_twelve } ∷ []
+abbrev pub reads : GeometryData → ℕ → Generations → List Entry → List CallEvent
+reads g pa k made =
+    plain (gen_load_of g size.Two pa) k.two ∷ plain (gen_load_of g size.ThirtyTwo pa) k.thirty_two
+    ∷ record { act = gen_load_of g size.FiveTwelve pa; old = k.five_twelve; made = made } ∷ []
 
-pub record Reads (g : GeometryData) (t : Task) (place word : ℕ) (k : Generations) (events : List Event) : Type 0 where
-  pub looking : List Event
-  pub looked : Looks g t place word looking
+pub record Reads (g : GeometryData) (t : Task) (place word : ℕ) (k : Generations) (made : List Entry) (events : List CallEvent) : Type 0 where
+  pub looking : List CallEvent
+  pub looked : Looks g t place word [] looking
   pub needed : looked_answer g t word ≡ None
-  pub parts : events ≡ looking ++ reads g (address_of t) k
+  pub parts : events ≡ looking ++ reads g (address_of t) k made
 
--- fourth, where none is worn, the granule is changed, and after each change the generations are raised
-abbrev pub raises : GeometryData → ℕ → Generations → List Act
-raises g pa k = gen_raise_of g size.Two pa k.two ∷ gen_raise_of g size.ThirtyTwo pa k.thirty_two ∷ gen_raise_of g size.FiveTwelve pa k.five_twelve ∷ []
+-- fourth, where none is worn, the granule is changed, and after each change the generations are raised: the
+-- third raise completes the change
+abbrev pub change_entry : GeometryData → ℕ → ℕ → Task → Change → Entry
+change_entry g c n t ch = entry.Changed c n (granule_of_task g t) (from_of t ch) (to_of t ch)
 
-abbrev pub change_and_raises : GeometryData → Task → ℕ → Change → Kept → List Act
-change_and_raises g t place c k = act.Store place (changed_word g t c k.word) ∷ raises g (address_of t) k.generations
+abbrev pub completion : GeometryData → ℕ → ℕ → Task → Entry
+completion g c n t = entry.Settled c n (granule_of_task g t)
+
+abbrev pub raises : GeometryData → ℕ → ℕ → Task → Generations → List Step
+raises g c n t k =
+    plain_step (gen_raise_of g size.Two (address_of t) k.two)
+    ∷ plain_step (gen_raise_of g size.ThirtyTwo (address_of t) k.thirty_two)
+    ∷ record { act = gen_raise_of g size.FiveTwelve (address_of t) k.five_twelve; made = completion g c n t ∷ [] } ∷ []
+
+abbrev pub change_and_raises : GeometryData → ℕ → ℕ → Task → ℕ → Change → Kept → List Step
+change_and_raises g c n t place ch k =
+    record { act = act.Store place (changed_word g t ch k.word); made = change_entry g c n t ch ∷ [] } ∷ raises g c n t k.generations
 
 -- what is kept after a change and its raises
 abbrev pub kept_after : GeometryData → Task → Change → Kept → Kept
-kept_after g t c k = record { word = changed_word g t c k.word; generations = raised k.generations }
+kept_after g t ch k = record { word = changed_word g t ch k.word; generations = raised k.generations }
 
-abbrev pub transition_acts : GeometryData → Task → ℕ → Kept → List Act
-transition_acts g (task.Delegate pa source) place k = change_and_raises g (task.Delegate pa source) place change.Last k
-transition_acts g (task.Undelegate pa source) place k =
-    change_and_raises g (task.Undelegate pa source) place change.First k
-    ++ change_and_raises g (task.Undelegate pa source) place change.Last (kept_after g (task.Undelegate pa source) change.First k)
-transition_acts g t place k = []
+-- a delegate makes its last change alone, an undelegate goes through no access first
+abbrev pub transition_steps : GeometryData → ℕ → ℕ → Task → ℕ → Kept → List Step
+transition_steps g c n (task.Delegate pa source) place k = change_and_raises g c n (task.Delegate pa source) place change.Last k
+transition_steps g c n (task.Undelegate pa source) place k =
+    change_and_raises g c n (task.Undelegate pa source) place change.First k
+    ++ change_and_raises g c n (task.Undelegate pa source) place change.Last (kept_after g (task.Undelegate pa source) change.First k)
+transition_steps g c n t place k = []
 
 -- the generations last stored, which the call is answered
 abbrev pub last_generations : Task → Generations → Generations
 last_generations (task.Undelegate pa source) k = raised (raised k)
 last_generations t k = raised k
 
--- ---- by its answer, all events of a transition up to its unlock
+-- ---- by its answer, all events of a transition before its unlock
 
--- it was refused by the loaded word
-pub record IsRefused (g : GeometryData) (t : Task) (told : Answer) (events : List Event) : Type 0 where
+-- the entries of call n of caller c by its answer
+abbrev pub entries_of : GeometryData → ℕ → ℕ → Task → Answer → List Entry
+entries_of g c n t told = call_entries (granule_bytes g.setup) c n t told
+
+-- it was refused by the loaded word, and this load makes its entry
+pub record IsRefused (g : GeometryData) (c n : ℕ) (t : Task) (told : Answer) (events : List CallEvent) : Type 0 where
   pub place : ℕ
   pub word : ℕ
-  pub looked : Looks g t place word events
+  pub looked : Looks g t place word (entries_of g c n t told) events
   pub refused : looked_answer g t word ≡ Some told
 
--- it was refused by a loaded generation
-pub record IsWornOut (g : GeometryData) (t : Task) (told : Answer) (events : List Event) : Type 0 where
+-- it was refused by a loaded generation, and the third load makes its entry
+pub record IsWornOut (g : GeometryData) (c n : ℕ) (t : Task) (told : Answer) (events : List CallEvent) : Type 0 where
   pub place : ℕ
   pub word : ℕ
   pub generations : Generations
-  pub read : Reads g t place word generations events
+  pub read : Reads g t place word generations (entries_of g c n t told) events
   pub worn : worn_answer generations ≡ Some told
 
 -- it has found a contiguous entry
-pub record Stops (g : GeometryData) (t : Task) (events : List Event) : Type 0 where
+pub record Stops (g : GeometryData) (t : Task) (events : List CallEvent) : Type 0 where
   pub place : ℕ
   pub word : ℕ
   pub generations : Generations
-  pub read : Reads g t place word generations events
+  pub read : Reads g t place word generations [] events
   pub fresh : worn_answer generations ≡ None
   pub contiguous : is_granules word ≡ false
 
--- it goes on to change its granule, and has made these acts after its loads
-pub record Changes (g : GeometryData) (t : Task) (place : ℕ) (k : Kept) (made : List Act) (events : List Event) : Type 0 where
-  pub reading : List Event
-  pub changing : List Event
-  pub read : Reads g t place k.word k.generations reading
+-- it goes on to change its granule, and has made these steps after its loads
+pub record Changes (g : GeometryData) (t : Task) (place : ℕ) (k : Kept) (made : List Step) (events : List CallEvent) : Type 0 where
+  pub reading : List CallEvent
+  pub changing : List CallEvent
+  pub read : Reads g t place k.word k.generations [] reading
   pub fresh : worn_answer k.generations ≡ None
   pub granules : is_granules k.word ≡ true
-  pub acts : acts_in changing ≡ made
+  pub steps : steps_in changing ≡ made
   pub parts : events ≡ reading ++ changing
 
 -- it is done
-pub record IsDone (g : GeometryData) (t : Task) (told : Answer) (events : List Event) : Type 0 where
+pub record IsDone (g : GeometryData) (c n : ℕ) (t : Task) (told : Answer) (events : List CallEvent) : Type 0 where
   pub place : ℕ
   pub kept : Kept
-  pub changes : Changes g t place kept (transition_acts g t place kept) events
+  pub changes : Changes g t place kept (transition_steps g c n t place kept) events
   pub is : told ≡ answer.Done (last_generations t kept.generations)
 
-abbrev pub Decides : GeometryData → Task → Option Answer → List Event → Type 0
-Decides g t None events = Stops g t events
-Decides g t (Some told) events = IsRefused g t told events ⊎ (IsWornOut g t told events ⊎ IsDone g t told events)
+abbrev pub Decides : GeometryData → ℕ → ℕ → Task → Option Answer → List CallEvent → Type 0
+Decides g c n t None events = Stops g t events
+Decides g c n t (Some told) events = IsRefused g c n t told events ⊎ (IsWornOut g c n t told events ⊎ IsDone g c n t told events)
 
 -- last, the lock is released
-pub record Releases (g : GeometryData) (t : Task) (told : Option Answer) (events : List Event) : Type 0 where
-  pub deciding : List Event
+pub record Releases (g : GeometryData) (c n : ℕ) (t : Task) (told : Option Answer) (events : List CallEvent) : Type 0 where
+  pub deciding : List CallEvent
   pub left : ℕ
-  pub decided : Decides g t told deciding
-  pub parts : events ≡ deciding ++ record { act = release_act (lock_bit_of g t); old = left } ∷ []
+  pub decided : Decides g c n t told deciding
+  pub parts : events ≡ deciding ++ plain (release_act (lock_bit_of g t)) left ∷ []
 
 -- ---- the calls of an agent
 
--- the events of a call with this answer: none where its task has no acts
-abbrev pub IsCall : GeometryData → Task → Option Answer → Answer → List Event → Type 0
-IsCall g t (Some idle) told events = (idle ≡ told) × (events ≡ [])
-IsCall g t None told events = Releases g t (Some told) events
+-- the events of call n of caller c with this answer: none where its task has no acts
+abbrev pub IsCall : GeometryData → ℕ → ℕ → Task → Option Answer → Answer → List CallEvent → Type 0
+IsCall g c n t (Some idle) told events = (idle ≡ told) × (events ≡ [])
+IsCall g c n t None told events = Releases g c n t (Some told) events
 
--- the events of the answered calls, in their order
-abbrev pub AreCallEvents : GeometryData → List Task → List Answer → List Event → Type 0
-AreCallEvents g tasks [] events = events ≡ []
-AreCallEvents g [] (a ∷ answers) events = ⊥
-AreCallEvents g (t ∷ tasks) (a ∷ answers) events =
-    (own : List Event) × (rest : List Event) × (events ≡ own ++ rest) × IsCall g t (idle_answer g t) a own × AreCallEvents g tasks answers rest
+-- the events of the answered calls, from call n on, in their order
+abbrev pub AreCallEvents : GeometryData → ℕ → ℕ → List Task → List Answer → List CallEvent → Type 0
+AreCallEvents g c n tasks [] events = events ≡ []
+AreCallEvents g c n [] (a ∷ answers) events = ⊥
+AreCallEvents g c n (t ∷ tasks) (a ∷ answers) events =
+    (own : List CallEvent) × (rest : List CallEvent) × (events ≡ own ++ rest)
+    × IsCall g c n t (idle_answer g t) a own × AreCallEvents g c (n + 1) tasks answers rest
 
--- ---- the call under way
+-- The call under way has acts, and its events are a prefix of those that the script allows it: a proper
+-- one, or it has found a contiguous entry and stopped.
+pub record IsUnderWay (g : GeometryData) (c n : ℕ) (t : Task) (events : List CallEvent) : Type 0 where
+  pub acts : idle_answer g t ≡ None
+  pub rest : List CallEvent
+  pub told : Option Answer
+  pub whole : Releases g c n t told (events ++ rest)
+  pub proper : rest ≡ [] → told ≡ None
 
--- the loads of generations before that of this size
-abbrev pub reads_before : GeometryData → ℕ → Size → Generations → List Event
-reads_before g pa size.Two k = []
-reads_before g pa size.ThirtyTwo k = record { act = gen_load_of g size.Two pa; old = k.two } ∷ []
-reads_before g pa size.FiveTwelve k =
-    record { act = gen_load_of g size.Two pa; old = k.two } ∷ record { act = gen_load_of g size.ThirtyTwo pa; old = k.thirty_two } ∷ []
+-- An agent that is caller c follows its script: its events are those of its answered calls, whole and in
+-- their order, and then those of the next call, if there is one.
+pub record Follows (g : GeometryData) (c : ℕ) (tasks : List Task) (answers : List Answer) (events : List CallEvent) : Type 0 where
+  pub calls : List CallEvent
+  pub last : List CallEvent
+  pub parts : events ≡ calls ++ last
+  pub answered : AreCallEvents g c 0 tasks answers calls
+  pub under_way : MatchOption (slice_get tasks (length answers)) (last ≡ []) (λ t. IsUnderWay g c (length answers) t last)
 
-pub record IsReading (g : GeometryData) (t : Task) (z : Size) (k : Kept) (events : List Event) : Type 0 where
-  pub place : ℕ
-  pub looking : List Event
-  pub looked : Looks g t place k.word looking
-  pub needed : looked_answer g t k.word ≡ None
-  pub parts : events ≡ looking ++ reads_before g (address_of t) z k.generations
-
--- the raises from that of this size on, and what is kept after them
-abbrev pub raises_at : GeometryData → ℕ → Size → Generations → List Act
-raises_at g pa size.Two k = raises g pa k
-raises_at g pa size.ThirtyTwo k = gen_raise_of g size.ThirtyTwo pa k.thirty_two ∷ gen_raise_of g size.FiveTwelve pa k.five_twelve ∷ []
-raises_at g pa size.FiveTwelve k = gen_raise_of g size.FiveTwelve pa k.five_twelve ∷ []
-
-abbrev pub kept_raised_at : Size → Kept → Kept
-kept_raised_at size.Two k = record { word = k.word; generations = raised k.generations }
-kept_raised_at size.ThirtyTwo k = record { word = k.word; generations = raised_at size.FiveTwelve (raised_at size.ThirtyTwo k.generations) }
-kept_raised_at size.FiveTwelve k = record { word = k.word; generations = raised_at size.FiveTwelve k.generations }
-
--- the acts that are still to come after a change and its raises
-abbrev pub acts_after : GeometryData → Task → ℕ → Change → Kept → List Act
-acts_after g t place change.First k = change_and_raises g t place change.Last k
-acts_after g t place change.Last k = []
-
-abbrev pub generations_after : Change → Generations → Generations
-generations_after change.First k = raised k
-generations_after change.Last k = k
-
--- a transition that has made its loads and the first of its other acts, so that these are still to come
-pub record IsChanging (g : GeometryData) (t : Task) (place : ℕ) (to_come : List Act) (last : Generations) (events : List Event) : Type 0 where
-  pub kept : Kept
-  pub made : List Act
-  pub changes : Changes g t place kept made events
-  pub whole : made ++ to_come ≡ transition_acts g t place kept
-  pub is : last ≡ last_generations t kept.generations
-
--- the events of the call under way, at each stage
-abbrev pub IsFront : GeometryData → Stage → Option Task → List Event → Type 0
-IsFront g s None events = events ≡ []
-IsFront g stage.Locking (Some t) events = All (IsWait g t) events
-IsFront g stage.Looking (Some t) events = TakesLock g t events
-IsFront g (stage.Reading z k) (Some t) events = IsReading g t z k events
-IsFront g (stage.Changing c k) (Some t) events =
-    (place : ℕ) × (l1_place_of g (address_of t) ≡ Some place)
-    × IsChanging g t place (change_and_raises g t place c k ++ acts_after g t place c (kept_after g t c k)) (generations_after c (raised k.generations)) events
-IsFront g (stage.Raising c z k) (Some t) events =
-    (place : ℕ) × (l1_place_of g (address_of t) ≡ Some place)
-    × IsChanging g t place (raises_at g (address_of t) z k.generations ++ acts_after g t place c (kept_raised_at z k)) (generations_after c (kept_raised_at z k).generations) events
-IsFront g (stage.Releasing told) (Some t) events = Decides g t told events
-IsFront g stage.Stopped (Some t) events = Releases g t None events
-
--- An agent stands at the end of these events of its script.
-pub record StandsAfter (a : AgentData) (events : List Event) : Type 0 where
-  pub calls : List Event
-  pub front : List Event
-  pub parts : events ≡ calls ++ front
-  pub answered : AreCallEvents a.geometry a.tasks a.answers calls
-  pub under_way : IsFront a.geometry a.stage (task_of a) front
+-- Its next call has found a contiguous entry, and it makes no further act.
+pub record HasStopped (g : GeometryData) (c : ℕ) (tasks : List Task) (answers : List Answer) (events : List CallEvent) : Type 0 where
+  pub calls : List CallEvent
+  pub last : List CallEvent
+  pub task : Task
+  pub parts : events ≡ calls ++ last
+  pub answered : AreCallEvents g c 0 tasks answers calls
+  pub next : slice_get tasks (length answers) ≡ Some task
+  pub stopped : Releases g c (length answers) task None last

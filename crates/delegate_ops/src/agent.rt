@@ -1,4 +1,4 @@
-ghost use Rattle.std.specs.Prelude.{◌≡◌, ◌-◌, ◌<◌, ◌≤◌, ◌^◌, ◌++◌, IfOk, IsSome, IsTrue, is_some, Some, None, length, drop, false, slice_get, vec_capacity};
+ghost use Rattle.std.specs.Prelude.{◌≡◌, ◌-◌, ◌<◌, ◌≤◌, ◌^◌, ◌++◌, IfOk, IsSome, IsTrue, is_some, not, Some, None, length, drop, false, slice_get, vec_capacity};
 ghost use Rattle.std.specs.List.{All};
 ghost use Rattle.std.specs.Option.{option_map};
 ghost use Rattle.gpt_descriptors.specs.Sizes.{generation_last};
@@ -8,7 +8,8 @@ ghost use Rattle.invalidate.specs.Generations.{gen_load_of, gen_raise_of};
 ghost use Rattle.shared_words.specs.declared.act.Act.TheVariants as act;
 ghost use Rattle.delegate_ops.specs.Deciding.{address_of, idle_answer, looked_answer, worn_answer};
 ghost use Rattle.delegate_ops.specs.Changing.{changed_word};
-ghost use Rattle.delegate_ops.specs.Agents.{stage_after, is_held, looked_stage, read_all, read_stage, raised_stage, is_look, task_of, fresh, idle_answers, lock_bit_of, act_at, next_of, goes_to, after_answer, took_at, took_of, HasActs, IsReadable, IsStage, IsAgent};
+ghost use Rattle.delegate_ops.specs.Script.{lock_bit_of};
+ghost use Rattle.delegate_ops.specs.Agents.{stage_after, is_held, looked_stage, read_all, read_stage, raised_stage, is_look, task_of, fresh, idle_answers, act_at, has_ended, next_of, goes_to, after_answer, took_at, took_of, HasActs, IsReadable, IsStage, IsAgent};
 
 use crate::changing::{changed_word, first_change, generation_in};
 use crate::deciding::{address_of, idle_answer, is_granules, looked_answer, worn_answer};
@@ -219,7 +220,8 @@ impl Agent {
 
     /// The next act, or `None` exactly where every task is answered or the agent has stopped.
     pub fn next(&self) -> Option<Act>
-        ensures { result ≡ next_of self.now }
+        ensures next { result ≡ next_of self.now }
+        ensures there { is_some result ≡ not (has_ended self.now) }
     {
         match self.under_way() {
             Some(task) => self.act(task),

@@ -13,6 +13,6 @@ mod tests;
 
 pub use agent::Agent;
 pub use history::{Answer, Task};
-pub use refused::refused_calls_write_nothing;
-pub use script::steps_walk_the_script;
+pub use refused::refused_calls_change_nothing;
+pub use script::agents_follow_their_script;
 pub use stage::{Change, Kept, Stage};

@@ -6,13 +6,18 @@ ghost use Rattle.history.specs.Legality.{is_done};
 ghost use Rattle.gpt_descriptors.specs.Places.{GeometryData};
 ghost use Rattle.bit_locks.specs.Locks.{release_act};
 ghost use Rattle.delegate_ops.specs.Deciding.{idle_answer};
-ghost use Rattle.delegate_ops.specs.Agents.{lock_bit_of};
-ghost use Rattle.delegate_ops.specs.Script.{Event, IsCall};
+ghost use Rattle.delegate_ops.specs.Script.{CallEvent, plain, lock_bit_of, IsCall};
 ghost use Rattle.delegate_ops.specs.Quiet.{IsQuiet};
 
-/// The law of refused calls: a call that is answered, and not that it is done, writes no word but its
-/// lock's, and each answered call with acts releases its lock last.
-pub fn refused_calls_write_nothing()
-    ensures quiet { (g : GeometryData) (t : Task) (told : Answer) (events : List Event) → IsCall g t (idle_answer g t) told events → is_done told ≡ false → All (λ e. IsQuiet g t e.act) events }
-    ensures unlocks { (g : GeometryData) (t : Task) (told : Answer) (events : List Event) → IsCall g t (idle_answer g t) told events → idle_answer g t ≡ None → (front : List Event) × (left : ℕ) × (events ≡ front ++ record { act = release_act (lock_bit_of g t); old = left } ∷ []) }
+/// The law of refused calls: a call with an answer other than done loads its own L1 word and its own
+/// three generations alone, and writes no word but its lock's. Each answered call with acts releases
+/// its lock last.
+pub fn refused_calls_change_nothing()
+    ensures quiet { (g : GeometryData) (c n : ℕ) (t : Task) (answer : Answer) (events : List CallEvent)
+        → IsCall g c n t (idle_answer g t) answer events → is_done answer ≡ false
+        → All (λ e. IsQuiet g t e.act) events }
+    ensures unlocks { (g : GeometryData) (c n : ℕ) (t : Task) (answer : Answer) (events : List CallEvent)
+        → IsCall g c n t (idle_answer g t) answer events → idle_answer g t ≡ None
+        → (before : List CallEvent) × (left : ℕ)
+        × (events ≡ before ++ plain (release_act (lock_bit_of g t)) left ∷ []) }
 {}

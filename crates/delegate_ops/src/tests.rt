@@ -199,7 +199,7 @@ fn two_calls_at_a_secure_granule_take_six_acts(rt: HostRuntime) -> Result<(), Fa
         .as_slice()
     );
     assert_eq!(rt; words.words().first().copied(), Some(0));
-    steps_walk_the_script();
+    agents_follow_their_script();
     Ok(())
 }
 
@@ -280,7 +280,7 @@ fn a_worn_generation_is_told_with_its_first_size(rt: HostRuntime) -> Result<(), 
         assert_eq!(rt; step(&mut agent, &mut words), Some((UNLOCK, 1)));
         assert_eq!(rt; agent.answers(), [Answer::Worn(size, value)].as_slice());
     }
-    refused_calls_write_nothing();
+    refused_calls_change_nothing();
     Ok(())
 }
 

@@ -1,0 +1,65 @@
+-- An agent with a call left has a next act.
+use Rattle.std.proofs.Common.{◌≡◌, ℕ, ◌+◌, ◌*◌, ◌/◌, ◌%◌, eqb, ltb, take, Bool, true, false, not, Option, Some, None, refl, sym, ap, ◌∙◌, subst, inl, inr}
+use Rattle.std.specs.Prelude.{is_some, slice_index, option_and_then}
+use Rattle.std.specs.Option.{option_map}
+use Rattle.std.proofs.lemmas.Bool.{cases_Bool}
+use Rattle.gpt_descriptors.specs.Sizes.{granule_bytes, word_bytes, table_words, region_bytes, space_bytes}
+use Rattle.gpt_descriptors.specs.Level0.{is_table, table_count}
+use Rattle.gpt_descriptors.specs.Places.{GeometryData, Level1, place_of, l0_words, l0_word_of, l1_index_of, l1_place_of}
+use Rattle.gpt_descriptors.proofs.PlaceLemmas.{region_of_word}
+use Rattle.history.specs.declared.call.Task.{Task}
+use Rattle.delegate_ops.specs.declared.stage.Stage.{Stage}
+use Rattle.delegate_ops.specs.declared.stage.Stage.TheVariants as stage
+use Rattle.delegate_ops.specs.Deciding.{address_of, is_unusable, idle_answer}
+use Rattle.delegate_ops.specs.Agents.{AgentData, IsAgent, HasActs, task_of, act_at, next_of, has_stopped, has_ended}
+use Rattle.delegate_ops.proofs.DecidingLemmas.{acts_usable}
+
+-- a usable address has a table
+usable_table : (g : GeometryData) (pa : ℕ) → is_unusable g pa ≡ false → is_table (l0_word_of g pa) ≡ true
+usable_table g pa usable =
+    elim (cases_Bool (is_table (l0_word_of g pa))) [
+      | inl there ↦ there
+      | inr block ↦ elim (cases_Bool (ltb pa (space_bytes g.setup))) [
+        | inr outside ↦ elim (cases_Bool (eqb (pa % granule_bytes g.setup) 0)) [
+          | inl aligned ↦ absurd (let both = rw (aligned, outside) at usable in cc)
+          | inr unaligned ↦ absurd (let both = rw unaligned at usable in cc)
+        ]
+        | inl inside ↦ elim (cases_Bool (eqb (pa % granule_bytes g.setup) 0)) [
+          | inl aligned ↦ absurd (let both = rw (aligned, inside, block) at usable in cc)
+          | inr unaligned ↦ absurd (let both = rw unaligned at usable in cc)
+        ]
+      ]
+    ]
+
+index_there : (g : GeometryData) (pa : ℕ) → is_table (l0_word_of g pa) ≡ true → (i : ℕ) × (l1_index_of g pa ≡ Some i)
+index_there g pa there =
+    let here : is_table (slice_index (l0_words g) (pa / word_bytes g.setup / table_words g.setup)) ≡ true =
+    ap (λ (q : ℕ). is_table (slice_index (l0_words g) q)) (region_of_word g.setup pa) ∙ there in
+    (table_count (take (pa / word_bytes g.setup / table_words g.setup) (l0_words g)) * table_words g.setup + pa / word_bytes g.setup % table_words g.setup, rw here refl)
+
+-- the L1 word of a task with acts has a place
+pub acts_place : (g : GeometryData) (t : Task) → idle_answer g t ≡ None → (place : ℕ) × (l1_place_of g (address_of t) ≡ Some place)
+acts_place g t acts =
+    let index = index_there g (address_of t) (usable_table g (address_of t) (acts_usable g t acts)) in
+    (place_of g (Level1 index.0), rw index.1 refl)
+
+act_there : (g : GeometryData) (s : Stage) (t : Task) → idle_answer g t ≡ None → is_some (act_at g s t) ≡ not (has_stopped s)
+act_there g stage.Locking t acts = refl
+act_there g stage.Looking t acts = rw (acts_place g t acts).1 refl
+act_there g (stage.Reading z k) t acts = refl
+act_there g (stage.Changing c k) t acts = rw (acts_place g t acts).1 refl
+act_there g (stage.Raising c z k) t acts = refl
+act_there g (stage.Releasing answer) t acts = refl
+act_there g stage.Stopped t acts = refl
+
+-- the act of the task under way
+pub act_next : (a : AgentData) (t : Task) → task_of a ≡ Some t → idle_answer a.geometry t ≡ None → is_some (act_at a.geometry a.stage t) ≡ not (has_ended a)
+act_next a t under_way acts = rw under_way (act_there a.geometry a.stage t acts)
+
+next_of_task : (a : AgentData) (o : Option Task) → task_of a ≡ o → HasActs a.geometry o → is_some (next_of a) ≡ not (has_ended a)
+next_of_task a None under_way acts = rw under_way refl
+next_of_task a (Some t) under_way acts = rw under_way (act_there a.geometry a.stage t acts)
+
+-- a next act is there exactly where the agent hasn't ended
+pub next_there : (a : AgentData) → IsAgent a → is_some (next_of a) ≡ not (has_ended a)
+next_there a is = next_of_task a (task_of a) refl is.acts
