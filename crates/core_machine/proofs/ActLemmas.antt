@@ -27,16 +27,16 @@ use Rattle.delegate_ops.proofs.DecidingLemmas.{acts_inside}
 use Rattle.delegate_ops.proofs.AgentLemmas.{at_stage}
 use Rattle.core_machine.specs.declared.caller.Caller.{Caller}
 use Rattle.core_machine.specs.declared.caller.Caller.TheVariants as caller
-use Rattle.core_machine.specs.Callers.{own_of, call_of, granule_of_task}
-use Rattle.core_machine.specs.Tables.{MeansMap}
-use Rattle.core_machine.specs.Locks.{is_inside, holds}
-use Rattle.core_machine.specs.Opened.{open_by, pairs_of, OpenAreHeld}
-use Rattle.core_machine.specs.Seen.{Sees}
-use Rattle.core_machine.specs.Raised.{is_due, generation_word}
-use Rattle.core_machine.specs.Alone.{is_on_block, IsAlone}
-use Rattle.core_machine.specs.Counted.{IsCounted, coming_at, known_answers, caller_tasks}
-use Rattle.core_machine.specs.Told.{Tells}
-use Rattle.core_machine.specs.Stands.{IsMade, Stands}
+use Rattle.core_machine.specs.InnerCallers.{own_of, call_of}
+use Rattle.core_machine.specs.InnerTables.{MeansMap}
+use Rattle.core_machine.specs.InnerLocks.{is_inside, holds}
+use Rattle.core_machine.specs.InnerOpened.{open_by, pairs_of, OpenAreHeld}
+use Rattle.core_machine.specs.InnerSeen.{Sees}
+use Rattle.core_machine.specs.InnerRaised.{is_due}
+use Rattle.core_machine.specs.InnerAlone.{IsAlone}
+use Rattle.core_machine.specs.InnerCounted.{coming_at, known_answers, caller_tasks}
+use Rattle.core_machine.specs.InnerHistory.{Tells}
+use Rattle.core_machine.specs.InnerInvariant.{IsMade, Stands}
 use Rattle.core_machine.proofs.ListLemmas.{one, get_set, get_append, get_front}
 use Rattle.core_machine.proofs.LockLemmas.{locks_keep}
 use Rattle.core_machine.proofs.OthersLemmas.{Holder, other_number, made_at_place, is_holder, holder_has}
@@ -45,6 +45,9 @@ use Rattle.core_machine.proofs.OpenedLemmas.{opened_stays, others_closed}
 use Rattle.core_machine.proofs.RaisedLemmas.{generations_keep}
 use Rattle.core_machine.proofs.AloneLemmas.{undisturbed_more, alone_own, alone_other}
 use Rattle.core_machine.proofs.CountedLemmas.{counted_more}
+use Rattle.core_machine.specs.Facts.{IsCounted, generation_word, is_on_block}
+use Rattle.delegate_ops.specs.Script.{completion, granule_of_task}
+use Rattle.delegate_ops.specs.Changing.{raised}
 
 -- ---- the caller that acts
 

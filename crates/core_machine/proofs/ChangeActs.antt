@@ -22,18 +22,16 @@ use Rattle.delegate_ops.specs.declared.stage.Change.{Change}
 use Rattle.delegate_ops.specs.declared.stage.Kept.{Kept}
 use Rattle.delegate_ops.specs.declared.stage.Stage.TheVariants as stage
 use Rattle.delegate_ops.specs.Deciding.{address_of, granule_place}
-use Rattle.delegate_ops.specs.Changing.{from_of, to_of, changed_word}
+use Rattle.delegate_ops.specs.Changing.{from_of, to_of, changed_word, raised}
 use Rattle.delegate_ops.specs.Agents.{AgentData, kept_changed, goes_to, took_at}
 use Rattle.delegate_ops.proofs.DecidingLemmas.{acts_usable, acts_inside}
 use Rattle.delegate_ops.proofs.FieldEntryLemmas.{with_granules, with_same}
 use Rattle.delegate_ops.proofs.AgentLemmas.{at_stage}
 use Rattle.core_machine.specs.declared.caller.Caller.{Caller}
 use Rattle.core_machine.specs.declared.caller.Caller.TheVariants as caller
-use Rattle.core_machine.specs.Callers.{granule_of_task, change_entry, entries_before}
-use Rattle.core_machine.specs.Tables.{table_word}
-use Rattle.core_machine.specs.Seen.{comes_before, SeesAll}
-use Rattle.core_machine.specs.Raised.{generation_word}
-use Rattle.core_machine.specs.Stands.{IsMade, Stands}
+use Rattle.core_machine.specs.InnerTables.{table_word}
+use Rattle.core_machine.specs.InnerSeen.{comes_before, SeesAll}
+use Rattle.core_machine.specs.InnerInvariant.{IsMade, Stands}
 use Rattle.core_machine.proofs.ListLemmas.{one}
 use Rattle.core_machine.proofs.TableLemmas.{usable_aligned}
 use Rattle.core_machine.proofs.ChangeLemmas.{change_means}
@@ -43,6 +41,9 @@ use Rattle.core_machine.proofs.CountedLemmas.{count_more}
 use Rattle.core_machine.proofs.ActLemmas.{Acting, state_of, mades_of, closed_of, other_lock, telling_keep}
 use Rattle.core_machine.proofs.LockActs.{ActKeeps}
 use Rattle.core_machine.proofs.LoadActs.{state_length, found_of, seen_of}
+use Rattle.delegate_ops.specs.Script.{change_entry, granule_of_task}
+use Rattle.delegate_ops.specs.InnerEntries.{entries_before}
+use Rattle.core_machine.specs.Facts.{generation_word}
 
 -- ---- words that a write leaves
 

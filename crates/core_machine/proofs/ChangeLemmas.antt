@@ -31,9 +31,10 @@ use Rattle.delegate_ops.specs.Deciding.{granule_place, is_granules}
 use Rattle.delegate_ops.specs.Changing.{with_field}
 use Rattle.delegate_ops.proofs.FieldLemmas.{with_field_fits}
 use Rattle.delegate_ops.proofs.FieldEntryLemmas.{granules_word_entry, with_granules, with_same, with_other}
-use Rattle.core_machine.specs.Tables.{table_gpi, table_word, map_at, MeansMap, AreCanonical, CoverEqual}
+use Rattle.core_machine.specs.InnerTables.{table_gpi, table_word, MeansMap, AreCanonical, CoverEqual}
 use Rattle.core_machine.proofs.ListLemmas.{get_set_same, get_set_other}
 use Rattle.core_machine.proofs.TableLemmas.{granule_back, granule_within}
+use Rattle.core_machine.specs.Scenarios.{map_at}
 
 -- ---- granules and their words
 

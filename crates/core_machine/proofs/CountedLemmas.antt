@@ -18,9 +18,9 @@ use Rattle.history.specs.declared.entry.Entry.TheVariants as entry
 use Rattle.history.specs.Entries.{granule_in}
 use Rattle.history.specs.Counts.{region_of, is_change, is_completion, count_of, counts_around, is_by, is_worn}
 use Rattle.delegate_ops.specs.Deciding.{generation_in, worn_answer}
-use Rattle.core_machine.specs.Callers.{granule_of_task}
-use Rattle.core_machine.specs.Counted.{IsCounted}
 use Rattle.core_machine.proofs.ListLemmas.{one}
+use Rattle.core_machine.specs.Facts.{IsCounted}
+use Rattle.delegate_ops.specs.Script.{granule_of_task}
 
 -- ---- one entry more
 

@@ -30,12 +30,12 @@ use Rattle.delegate_ops.specs.declared.stage.Stage.{Stage}
 use Rattle.delegate_ops.specs.declared.stage.Stage.TheVariants as stage
 use Rattle.delegate_ops.specs.Deciding.{address_of, idle_answer, granule_place, is_needed, refusal_of, generation_in}
 use Rattle.delegate_ops.specs.Agents.{IsChangeOf, IsStage}
-use Rattle.delegate_ops.specs.Script.{Event, Decides, IsCall, IsFront}
+use Rattle.delegate_ops.specs.Script.{CallEvent, Decides, IsCall, change_entry}
 use Rattle.delegate_ops.proofs.DecidingLemmas.{acts_inside}
-use Rattle.core_machine.specs.Callers.{change_entry, entries_before, front_at}
 use Rattle.core_machine.proofs.ListLemmas.{all_one}
 use Rattle.core_machine.proofs.TableLemmas.{granule_within}
 use Rattle.core_machine.proofs.ToldLemmas.{idle_quiet}
+use Rattle.delegate_ops.specs.InnerEntries.{entries_at, entries_before}
 
 -- ---- granules inside the space
 
@@ -113,8 +113,8 @@ worn_fits : (t : Task) (o : Option Size) (f : Size → ℕ) (a : Answer) → opt
 worn_fits t None f a worn = absurd cc
 worn_fits t (Some z) f a worn = subst (FitsAnswer t) (let is : answer.Worn z (f z) ≡ a = cc in is) tt
 
-pub decided_fits : (g : GeometryData) (t : Task) (told : Answer) (events : List Event) → Decides g t (Some told) events → FitsAnswer t told
-decided_fits g t told events decided =
+pub decided_fits : (g : GeometryData) (c k : ℕ) (t : Task) (told : Answer) (events : List CallEvent) → Decides g c k t (Some told) events → FitsAnswer t told
+decided_fits g c k t told events decided =
     elim decided [
       | inl refused ↦ refused_fits t (word_gpi refused.word (granule_place g (address_of t))) told refused.refused
       | inr later ↦ elim later [
@@ -123,32 +123,32 @@ decided_fits g t told events decided =
       ]
     ]
 
-call_allowed_by : (g : GeometryData) (c k : ℕ) (t : Task) (a : Answer) (own : List Event) (idle : Option Answer) → idle_answer g t ≡ idle → IsCall g t idle a own
+call_allowed_by : (g : GeometryData) (c k : ℕ) (t : Task) (a : Answer) (own : List CallEvent) (idle : Option Answer) → idle_answer g t ≡ idle → IsCall g c k t idle a own
     → All (IsOwnEntry g c k t a) (call_entries (granule_bytes g.setup) c k t a)
-call_allowed_by g c k t a own None acts call = fitting_allowed g c k t a acts (decided_fits g t a call.deciding call.decided)
+call_allowed_by g c k t a own None acts call = fitting_allowed g c k t a acts (decided_fits g c k t a call.deciding call.decided)
 call_allowed_by g c k t a own (Some b) idle call =
     subst (All (IsOwnEntry g c k t a)) (sym (idle_quiet g (granule_bytes g.setup) c k t a (idle ∙ ap Some call.0))) (All-nil (IsOwnEntry g c k t a))
 
 -- the entries of an answered call
-pub call_allowed : (g : GeometryData) (c k : ℕ) (t : Task) (a : Answer) (own : List Event) → IsCall g t (idle_answer g t) a own
+pub call_allowed : (g : GeometryData) (c k : ℕ) (t : Task) (a : Answer) (own : List CallEvent) → IsCall g c k t (idle_answer g t) a own
     → All (IsOwnEntry g c k t a) (call_entries (granule_bytes g.setup) c k t a)
 call_allowed g c k t a own call = call_allowed_by g c k t a own (idle_answer g t) refl call
 
 -- ---- the call under way
 
 -- what it has made are the first entries of an answer that it can have
-abbrev pub IsFrontFit : GeometryData → ℕ → ℕ → Option Task → List Entry → Type 0
-IsFrontFit g c k None made = made ≡ []
-IsFrontFit g c k (Some t) made = (a : Answer) × (n : ℕ) × (made ≡ take n (call_entries (granule_bytes g.setup) c k t a)) × FitsAnswer t a
+abbrev pub IsPrefixFit : GeometryData → ℕ → ℕ → Option Task → List Entry → Type 0
+IsPrefixFit g c k None made = made ≡ []
+IsPrefixFit g c k (Some t) made = (a : Answer) × (n : ℕ) × (made ≡ take n (call_entries (granule_bytes g.setup) c k t a)) × FitsAnswer t a
 
 no_generations : Generations
 no_generations = record { two = 0; thirty_two = 0; five_twelve = 0 }
 
-changing_fits : (g : GeometryData) (c k : ℕ) (t : Task) (ch : Change) → IsFrontFit g c k (Some t) (entries_before g c k t ch)
+changing_fits : (g : GeometryData) (c k : ℕ) (t : Task) (ch : Change) → IsPrefixFit g c k (Some t) (entries_before g c k t ch)
 changing_fits g c k (task.Undelegate pa source) change.Last = (answer.Done no_generations, 2, refl, tt)
 changing_fits g c k t ch = (answer.Inval, 0, refl, tt)
 
-raising_fits : (g : GeometryData) (c k : ℕ) (t : Task) (ch : Change) → IsChangeOf t ch → IsFrontFit g c k (Some t) (entries_before g c k t ch ++ change_entry g c k t ch ∷ [])
+raising_fits : (g : GeometryData) (c k : ℕ) (t : Task) (ch : Change) → IsChangeOf t ch → IsPrefixFit g c k (Some t) (entries_before g c k t ch ++ change_entry g c k t ch ∷ [])
 raising_fits g c k (task.Delegate pa source) change.First changes = absurd changes
 raising_fits g c k (task.Delegate pa source) change.Last changes = (answer.Done no_generations, 1, refl, tt)
 raising_fits g c k (task.Undelegate pa source) change.First changes = (answer.Done no_generations, 1, refl, tt)
@@ -156,33 +156,33 @@ raising_fits g c k (task.Undelegate pa source) change.Last changes = (answer.Don
 raising_fits g c k task.Unknown ch changes = absurd changes
 raising_fits g c k (task.Look pa space) ch changes = absurd changes
 
-no_task_front : (g : GeometryData) (c k : ℕ) (s : Stage) → front_at g c k s None ≡ []
-no_task_front g c k stage.Locking = refl
-no_task_front g c k stage.Looking = refl
-no_task_front g c k (stage.Reading z kept) = refl
-no_task_front g c k (stage.Changing ch kept) = refl
-no_task_front g c k (stage.Raising ch z kept) = refl
-no_task_front g c k (stage.Releasing told) = refl
-no_task_front g c k stage.Stopped = refl
+no_task_prefix : (g : GeometryData) (c k : ℕ) (s : Stage) → entries_at g c k s None ≡ []
+no_task_prefix g c k stage.Locking = refl
+no_task_prefix g c k stage.Looking = refl
+no_task_prefix g c k (stage.Reading z kept) = refl
+no_task_prefix g c k (stage.Changing ch kept) = refl
+no_task_prefix g c k (stage.Raising ch z kept) = refl
+no_task_prefix g c k (stage.Releasing told) = refl
+no_task_prefix g c k stage.Stopped = refl
 
-pub front_fits : (g : GeometryData) (c k : ℕ) (s : Stage) (o : Option Task) (events : List Event) → IsStage s o → IsFront g s o events → IsFrontFit g c k o (front_at g c k s o)
-front_fits g c k (stage.Changing ch kept) (Some t) events fits front = changing_fits g c k t ch
-front_fits g c k (stage.Raising ch size.Two kept) (Some t) events fits front = raising_fits g c k t ch fits.0
-front_fits g c k (stage.Raising ch size.ThirtyTwo kept) (Some t) events fits front = raising_fits g c k t ch fits.0
-front_fits g c k (stage.Raising ch size.FiveTwelve kept) (Some t) events fits front = raising_fits g c k t ch fits.0
-front_fits g c k (stage.Releasing (Some told)) (Some t) events fits front =
+pub prefix_fits : (g : GeometryData) (c k : ℕ) (s : Stage) (o : Option Task) (events : List CallEvent) → IsStage s o → IsPrefix g c k s o events → IsPrefixFit g c k o (entries_at g c k s o)
+prefix_fits g c k (stage.Changing ch kept) (Some t) events fits front = changing_fits g c k t ch
+prefix_fits g c k (stage.Raising ch size.Two kept) (Some t) events fits front = raising_fits g c k t ch fits.0
+prefix_fits g c k (stage.Raising ch size.ThirtyTwo kept) (Some t) events fits front = raising_fits g c k t ch fits.0
+prefix_fits g c k (stage.Raising ch size.FiveTwelve kept) (Some t) events fits front = raising_fits g c k t ch fits.0
+prefix_fits g c k (stage.Releasing (Some told)) (Some t) events fits front =
     let es : List Entry = call_entries (granule_bytes g.setup) c k t told in
-    (told, length es, sym (take_all (length es) es (omega arith)), decided_fits g t told events front)
-front_fits g c k (stage.Releasing None) (Some t) events fits front = (answer.Inval, 0, refl, tt)
-front_fits g c k stage.Locking (Some t) events fits front = (answer.Inval, 0, refl, tt)
-front_fits g c k stage.Looking (Some t) events fits front = (answer.Inval, 0, refl, tt)
-front_fits g c k (stage.Reading z kept) (Some t) events fits front = (answer.Inval, 0, refl, tt)
-front_fits g c k stage.Stopped (Some t) events fits front = (answer.Inval, 0, refl, tt)
-front_fits g c k s None events fits front = no_task_front g c k s
+    (told, length es, sym (take_all (length es) es (omega arith)), decided_fits g c k t told events front)
+prefix_fits g c k (stage.Releasing None) (Some t) events fits front = (answer.Inval, 0, refl, tt)
+prefix_fits g c k stage.Locking (Some t) events fits front = (answer.Inval, 0, refl, tt)
+prefix_fits g c k stage.Looking (Some t) events fits front = (answer.Inval, 0, refl, tt)
+prefix_fits g c k (stage.Reading z kept) (Some t) events fits front = (answer.Inval, 0, refl, tt)
+prefix_fits g c k stage.Stopped (Some t) events fits front = (answer.Inval, 0, refl, tt)
+prefix_fits g c k s None events fits front = no_task_prefix g c k s
 
 -- the entries of a front are allowed by an answer
-pub front_allowed : (g : GeometryData) (c k : ℕ) (t : Task) (made : List Entry) → idle_answer g t ≡ None → IsFrontFit g c k (Some t) made
+pub prefix_allowed : (g : GeometryData) (c k : ℕ) (t : Task) (made : List Entry) → idle_answer g t ≡ None → IsPrefixFit g c k (Some t) made
     → (a : Answer) × All (IsOwnEntry g c k t a) made
-front_allowed g c k t made acts fits =
+prefix_allowed g c k t made acts fits =
     let es : List Entry = call_entries (granule_bytes g.setup) c k t fits.0 in
     (fits.0, subst (All (IsOwnEntry g c k t fits.0)) (sym fits.2) (All-take (IsOwnEntry g c k t fits.0) fits.1 es (fitting_allowed g c k t fits.0 acts fits.3)))

@@ -20,11 +20,12 @@ use Rattle.delegate_ops.specs.declared.stage.Stage.TheVariants as stage
 use Rattle.delegate_ops.specs.Agents.{AgentData, is_held, took_at, took_under_way, task_of}
 use Rattle.core_machine.specs.declared.caller.Caller.{Caller}
 use Rattle.core_machine.specs.declared.caller.Caller.TheVariants as caller
-use Rattle.core_machine.specs.Callers.{caller_next, caller_took, caller_answers}
-use Rattle.core_machine.specs.Stands.{IsMade}
-use Rattle.core_machine.specs.Machine.{MachineData, StandsFor, after_act_of, after_turn_of, after_turn, after_turns}
-use Rattle.core_machine.specs.Play.{task_of_ask, caller_of, geometry_of, opening_of, turns_in, played, outcome_of, calls_in, AreAnswersOf}
+use Rattle.core_machine.specs.InnerCallers.{caller_next, caller_took, caller_answers}
+use Rattle.core_machine.specs.InnerInvariant.{IsMade}
+use Rattle.core_machine.specs.InnerMachine.{MachineData, StandsFor, after_act_of, after_turn_of, after_turn, after_turns}
+use Rattle.core_machine.specs.InnerPlay.{caller_of, opening_of, played, outcome_of, calls_in, AreAnswersOf}
 use Rattle.core_machine.proofs.LawLemmas.{took_leaves}
+use Rattle.core_machine.specs.Scenarios.{geometry_of, task_of_ask, turns_in}
 
 -- ---- the calls of a caller
 

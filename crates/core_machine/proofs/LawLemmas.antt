@@ -16,19 +16,20 @@ use Rattle.delegate_ops.specs.declared.stage.Stage.{Stage}
 use Rattle.delegate_ops.specs.declared.stage.Stage.TheVariants as stage
 use Rattle.delegate_ops.specs.Deciding.{address_of, generation_in}
 use Rattle.delegate_ops.specs.Changing.{changed_word}
-use Rattle.delegate_ops.specs.Agents.{AgentData, HasActs, task_of, lock_bit_of, act_at, next_of, is_held, took_at, took_under_way, took_of}
+use Rattle.delegate_ops.specs.Agents.{AgentData, HasActs, task_of, act_at, next_of, is_held, took_at, took_under_way, took_of}
 use Rattle.delegate_ops.proofs.AgentLemmas.{at_stage, took_is_agent}
 use Rattle.delegate_ops.proofs.ScriptLemmas.{some_mapped, step_walks}
 use Rattle.core_machine.specs.declared.caller.Caller.{Caller}
 use Rattle.core_machine.specs.declared.caller.Caller.TheVariants as caller
-use Rattle.core_machine.specs.Callers.{caller_took, made_by, MayTake}
-use Rattle.core_machine.specs.Stands.{IsMade, Stands}
-use Rattle.core_machine.specs.Law.{OneActKeeps}
+use Rattle.core_machine.specs.InnerCallers.{caller_took, made_by, MayTake}
+use Rattle.core_machine.specs.InnerInvariant.{IsMade, Stands}
+use Rattle.core_machine.specs.InnerLaw.{OneActKeeps}
 use Rattle.core_machine.proofs.ActLemmas.{Acting}
 use Rattle.core_machine.proofs.LockActs.{ActKeeps, take_keeps, release_keeps}
 use Rattle.core_machine.proofs.LoadActs.{look_keeps, read_keeps}
 use Rattle.core_machine.proofs.ChangeActs.{change_keeps}
 use Rattle.core_machine.proofs.RaiseActs.{raise_keeps}
+use Rattle.delegate_ops.specs.Script.{lock_bit_of}
 
 -- ---- an agent after an act was made as before
 
@@ -51,8 +52,9 @@ pub took_made : (g : GeometryData) (a : AgentData) (next : Act) (old : ℕ) → 
 took_made g a next old made e = (
   (took_leaves a (task_of a) old).0 ∙ made.0,
   took_is_agent a old made.1,
-  made.2 ++ record { act = next; old = old } ∷ [],
-  step_walks a made.2 next old made.1 made.3 e,
+  made.2,
+  made.3 ++ record { act = next; old = old; made = made_at a.geometry made.2 (length a.answers) a.stage (task_of a) old } ∷ [],
+  step_walks made.2 a made.3 next old made.1 made.4 e,
 )
 
 -- ---- any act of an agent

@@ -20,16 +20,17 @@ use Rattle.history.specs.Calls as calls
 use Rattle.history.specs.Calls.{entries_by, call_entries, answered_entries, IsUnderWay, task_at, answer_at, Fits, IsLegalHistory, TellsCalls}
 use Rattle.delegate_ops.specs.declared.stage.Stage.{Stage}
 use Rattle.delegate_ops.specs.Agents.{AgentData, IsAgent, HasActs, IsStage, task_of}
-use Rattle.delegate_ops.specs.Script.{Event, AreCallEvents, IsFront, StandsAfter}
+use Rattle.delegate_ops.specs.Script.{CallEvent, AreCallEvents}
 use Rattle.core_machine.specs.declared.caller.Caller.{Caller}
 use Rattle.core_machine.specs.declared.caller.Caller.TheVariants as caller
-use Rattle.core_machine.specs.Callers.{caller_answers, front_at, own_of}
-use Rattle.core_machine.specs.Counted.{caller_tasks}
-use Rattle.core_machine.specs.Told.{AreAllowed, Tells}
-use Rattle.core_machine.specs.Stands.{IsMade}
+use Rattle.core_machine.specs.InnerCallers.{caller_answers, own_of}
+use Rattle.core_machine.specs.InnerCounted.{caller_tasks}
+use Rattle.core_machine.specs.InnerHistory.{AreAllowed, Tells}
+use Rattle.core_machine.specs.InnerInvariant.{IsMade}
 use Rattle.core_machine.proofs.AloneLemmas.{own_first}
 use Rattle.core_machine.proofs.LoadActs.{length_after}
-use Rattle.core_machine.proofs.EntryLemmas.{IsOwnEntry, call_allowed, IsFrontFit, front_fits, front_allowed}
+use Rattle.core_machine.proofs.EntryLemmas.{IsOwnEntry, call_allowed, IsPrefixFit, prefix_fits, prefix_allowed}
+use Rattle.delegate_ops.specs.InnerEntries.{entries_at}
 
 -- ---- an entry that its call allows
 
@@ -68,7 +69,7 @@ fits_given o a given = subst (λ (x : Option Answer). Fits x a) (sym given) refl
 fits_any : (o : Option Answer) (a : Answer) → o ≡ None → Fits o a
 fits_any o a none = subst (λ (x : Option Answer). Fits x a) (sym none) tt
 
-answered_each : (Q : Entry → Type 0) (g : GeometryData) (c k : ℕ) (tasks : List Task) (answers : List Answer) (events : List Event) → AreCallEvents g tasks answers events
+answered_each : (Q : Entry → Type 0) (g : GeometryData) (c k : ℕ) (tasks : List Task) (answers : List Answer) (events : List CallEvent) → AreCallEvents g c k tasks answers events
     → ((j : ℕ) (t : Task) (a : Answer) (e : Entry) → slice_get tasks j ≡ Some t → slice_get answers j ≡ Some a → IsOwnEntry g c (k + j) t a e → Q e)
     → All Q (answered_entries (granule_bytes g.setup) c k tasks answers)
 answered_each Q g c k [] answers events are each = All-nil Q
@@ -81,28 +82,28 @@ answered_each Q g c k (t ∷ tasks) (a ∷ answers) events are each =
     (answered_each Q g c (k + 1) tasks answers are.1 are.4
     (λ j u b e asks told own. each (suc j) u b e asks told (subst (λ (n : ℕ). IsOwnEntry g c n u b e) (let there : k + 1 + j ≡ k + suc j = omega arith in there) own)))
 
-front_known : (g : GeometryData) (tasks : List (List Task)) (answers : List (List Answer)) (c k : ℕ) (s : Stage) (o : Option Task) (events : List Event)
-    → IsStage s o → HasActs g o → IsFront g s o events → task_at tasks c k ≡ o → answer_at answers c k ≡ None → All (IsKnown g tasks answers) (front_at g c k s o)
-front_known g tasks answers c k s None events fits acts front asks told =
-    subst (All (IsKnown g tasks answers)) (sym (front_fits g c k s None events fits front)) (All-nil (IsKnown g tasks answers))
-front_known g tasks answers c k s (Some t) events fits acts front asks told =
-    let own = front_allowed g c k t (front_at g c k s (Some t)) acts (front_fits g c k s (Some t) events fits front) in
+prefix_known : (g : GeometryData) (tasks : List (List Task)) (answers : List (List Answer)) (c k : ℕ) (s : Stage) (o : Option Task) (events : List CallEvent)
+    → IsStage s o → HasActs g o → IsPrefix g c k s o events → task_at tasks c k ≡ o → answer_at answers c k ≡ None → All (IsKnown g tasks answers) (entries_at g c k s o)
+prefix_known g tasks answers c k s None events fits acts front asks told =
+    subst (All (IsKnown g tasks answers)) (sym (prefix_fits g c k s None events fits front)) (All-nil (IsKnown g tasks answers))
+prefix_known g tasks answers c k s (Some t) events fits acts front asks told =
+    let own = prefix_allowed g c k t (entries_at g c k s (Some t)) acts (prefix_fits g c k s (Some t) events fits front) in
     All-weaker (IsOwnEntry g c k t own.0) (IsKnown g tasks answers)
     (λ e is. known_of g tasks answers c k t own.0 e asks (fits_any (answer_at answers c k) own.0 told) is)
-    (front_at g c k s (Some t)) own.1
+    (entries_at g c k s (Some t)) own.1
 
-agent_known : (tasks : List (List Task)) (answers : List (List Answer)) (c : ℕ) (a : AgentData) (events : List Event) → slice_get tasks c ≡ Some a.tasks → slice_get answers c ≡ Some a.answers
-    → IsAgent a → StandsAfter a events → All (IsKnown a.geometry tasks answers) (own_of c (caller.Agent a))
+agent_known : (tasks : List (List Task)) (answers : List (List Answer)) (c : ℕ) (a : AgentData) (events : List CallEvent) → slice_get tasks c ≡ Some a.tasks → slice_get answers c ≡ Some a.answers
+    → IsAgent a → HasWalked c a events → All (IsKnown a.geometry tasks answers) (own_of c (caller.Agent a))
 agent_known tasks answers c a events asks told agent stands =
     All-append (IsKnown a.geometry tasks answers)
     (answered_entries (granule_bytes a.geometry.setup) c 0 a.tasks a.answers)
-    (front_at a.geometry c (length a.answers) a.stage (task_of a))
+    (entries_at a.geometry c (length a.answers) a.stage (task_of a))
     (answered_each (IsKnown a.geometry tasks answers) a.geometry c 0 a.tasks a.answers stands.calls stands.answered
     (λ j t b e task_is answer_is own.
     known_of a.geometry tasks answers c j t b e (own_task tasks c a.tasks j asks ∙ task_is)
     (fits_given (answer_at answers c j) b (own_answer answers c a.answers j told ∙ answer_is))
     (subst (λ (n : ℕ). IsOwnEntry a.geometry c n t b e) (let number : 0 + j ≡ j = omega arith in number) own)))
-    (front_known a.geometry tasks answers c (length a.answers) a.stage (task_of a) stands.front agent.stage agent.acts stands.under_way
+    (prefix_known a.geometry tasks answers c (length a.answers) a.stage (task_of a) stands.last agent.stage agent.acts stands.under_way
     (own_task tasks c a.tasks (length a.answers) asks)
     (own_answer answers c a.answers (length a.answers) told ∙ slice_get_past a.answers (length a.answers) (omega arith)))
 
@@ -111,7 +112,7 @@ agent_known tasks answers c a events asks told agent stands =
 -- each agent was made with this geometry and stands in its script
 abbrev pub AreMade : GeometryData → List Caller → Type 0
 AreMade g callers =
-    (c : ℕ) (a : AgentData) → slice_get callers c ≡ Some (caller.Agent a) → (a.geometry ≡ g) × IsAgent a × (events : List Event) × StandsAfter a events
+    (c : ℕ) (a : AgentData) → slice_get callers c ≡ Some (caller.Agent a) → (a.geometry ≡ g) × IsAgent a × (events : List CallEvent) × HasWalked c a events
 
 -- the tasks of each agent are among these
 abbrev pub HaveTasks : List (List Task) → List Caller → Type 0
@@ -183,7 +184,7 @@ made_legal g first callers h tasks tells have made size =
 
 -- ---- it tells each call
 
-under_way_of : (g : GeometryData) (c k : ℕ) (o : Option Task) (made : List Entry) → IsFrontFit g c k o made → IsUnderWay (granule_bytes g.setup) c k o made
+under_way_of : (g : GeometryData) (c k : ℕ) (o : Option Task) (made : List Entry) → IsPrefixFit g c k o made → IsUnderWay (granule_bytes g.setup) c k o made
 under_way_of g c k None made fits = fits
 under_way_of g c k (Some t) made fits = (fits.0, fits.1, fits.2)
 
@@ -191,13 +192,13 @@ none_under_way : (bytes c k : ℕ) (o : Option Task) → IsUnderWay bytes c k o 
 none_under_way bytes c k None = refl
 none_under_way bytes c k (Some t) = (answer.Inval, 0, refl)
 
-agent_calls : (c : ℕ) (a : AgentData) (h : List Entry) (events : List Event) → IsAgent a → StandsAfter a events → entries_by c h ≡ own_of c (caller.Agent a)
+agent_calls : (c : ℕ) (a : AgentData) (h : List Entry) (events : List CallEvent) → IsAgent a → HasWalked c a events → entries_by c h ≡ own_of c (caller.Agent a)
     → calls.AreCalls (granule_bytes a.geometry.setup) c a.tasks a.answers h
 agent_calls c a h events agent stands own = record {
-  under_way = front_at a.geometry c (length a.answers) a.stage (task_of a);
+  under_way = entries_at a.geometry c (length a.answers) a.stage (task_of a);
   in_order = own;
-  front = under_way_of a.geometry c (length a.answers) (task_of a) (front_at a.geometry c (length a.answers) a.stage (task_of a))
-      (front_fits a.geometry c (length a.answers) a.stage (task_of a) stands.front agent.stage stands.under_way);
+  front = under_way_of a.geometry c (length a.answers) (task_of a) (entries_at a.geometry c (length a.answers) a.stage (task_of a))
+      (prefix_fits a.geometry c (length a.answers) a.stage (task_of a) stands.last agent.stage stands.under_way);
 }
 
 no_answers : (bytes c k : ℕ) (tasks : List Task) → answered_entries bytes c k tasks [] ≡ []

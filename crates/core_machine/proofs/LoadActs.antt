@@ -34,19 +34,18 @@ use Rattle.delegate_ops.specs.declared.stage.Kept.{Kept}
 use Rattle.delegate_ops.specs.declared.stage.Stage.{Stage}
 use Rattle.delegate_ops.specs.declared.stage.Stage.TheVariants as stage
 use Rattle.delegate_ops.specs.Deciding.{address_of, idle_answer, is_needed, refusal_of, granule_place, looked_answer, is_granules, generation_in, worn_answer, is_unusable}
-use Rattle.delegate_ops.specs.Changing.{first_change, from_of}
-use Rattle.delegate_ops.specs.Agents.{AgentData, is_look, looked_stage, read_all, read_stage, kept_read, goes_to, took_at}
+use Rattle.delegate_ops.specs.Changing.{first_change, from_of, raised}
+use Rattle.delegate_ops.specs.Agents.{AgentData, is_look, looked_stage, read_all, read_stage, kept_read, goes_to, took_at, fresh}
 use Rattle.delegate_ops.proofs.DecidingLemmas.{acts_usable, acts_inside}
 use Rattle.delegate_ops.proofs.AgentLemmas.{at_stage, no_look_at}
 use Rattle.core_machine.specs.declared.caller.Caller.{Caller}
 use Rattle.core_machine.specs.declared.caller.Caller.TheVariants as caller
-use Rattle.core_machine.specs.Callers.{granule_of_task, known_entries, made_at, front_at}
-use Rattle.core_machine.specs.Locks.{is_inside}
-use Rattle.core_machine.specs.Seen.{comes_before, SeesWord, SeesGeneration, SeesSome, SeesAt}
-use Rattle.core_machine.specs.Opened.{open_by, open_at}
-use Rattle.core_machine.specs.Raised.{is_due_at, generation_word}
-use Rattle.core_machine.specs.Counted.{IsCounted, coming_at}
-use Rattle.core_machine.specs.Stands.{IsMade, Stands}
+use Rattle.core_machine.specs.InnerLocks.{is_inside}
+use Rattle.core_machine.specs.InnerSeen.{comes_before, SeesWord, SeesGeneration, SeesSome, SeesAt}
+use Rattle.core_machine.specs.InnerOpened.{open_by, open_at}
+use Rattle.core_machine.specs.InnerRaised.{is_due_at}
+use Rattle.core_machine.specs.InnerCounted.{coming_at}
+use Rattle.core_machine.specs.InnerInvariant.{IsMade, Stands}
 use Rattle.core_machine.proofs.TableLemmas.{granule_within, usable_aligned, word_readable, loaded_gpi}
 use Rattle.core_machine.proofs.OthersLemmas.{index_at, granule_address}
 use Rattle.core_machine.proofs.OpenedLemmas.{opened_stays, closed_here}
@@ -54,6 +53,9 @@ use Rattle.core_machine.proofs.RaisedLemmas.{count_seen}
 use Rattle.core_machine.proofs.CountedLemmas.{count_more, worn_counted}
 use Rattle.core_machine.proofs.ActLemmas.{Acting, low_of, state_of, holder_of, mades_of, closed_of, quiet_keep, telling_keep}
 use Rattle.core_machine.proofs.LockActs.{ActKeeps}
+use Rattle.core_machine.specs.Facts.{IsCounted, generation_word}
+use Rattle.delegate_ops.specs.InnerEntries.{entries_at, known_entries, made_at}
+use Rattle.delegate_ops.specs.Script.{granule_of_task, reads}
 
 -- ---- states
 
@@ -74,7 +76,7 @@ get_there xs i within = (get_or xs i gpi.Any, slice_get-get_or xs i gpi.Any with
 
 pub load_quietly : (first : List Gpi) (words : List ℕ) (callers : List Caller) (h : List Entry) (c : ℕ) (a : AgentData) (t : Task) (s next : Stage) → Acting first words callers h c a t s → is_inside s ≡ true → is_inside next ≡ true
     → IsMade a.geometry (caller.Agent (goes_to (at_stage a s) next)) → open_at a.geometry next (Some t) ≡ open_at a.geometry s (Some t) → ((y : Size) → is_due_at next y ≡ is_due_at s y) → SeesAt a.geometry words next (Some t)
-    → coming_at next ≡ [] → coming_at s ≡ [] → front_at a.geometry c (length a.answers) next (Some t) ≡ front_at a.geometry c (length a.answers) s (Some t)
+    → coming_at next ≡ [] → coming_at s ≡ [] → entries_at a.geometry c (length a.answers) next (Some t) ≡ entries_at a.geometry c (length a.answers) s (Some t)
     → Stands a.geometry first words (set callers c (caller.Agent (goes_to (at_stage a s) next))) (h ++ [])
 load_quietly first words callers h c a t s next acting inside stays made open_same due_same sees no_answer none_before front =
     let stands = acting.stands in
@@ -102,7 +104,7 @@ pub refuse : (first : List Gpi) (words : List ℕ) (callers : List Caller) (h : 
     → IsMade a.geometry (caller.Agent (goes_to (at_stage a s) (stage.Releasing (Some told)))) → open_at a.geometry s (Some t) ≡ [] → ((y : Size) → is_due_at s y ≡ false)
     → slice_get (state_of first h).map (granule_of_task a.geometry t) ≡ Some found
     → known_entries a.geometry c (length a.answers) t (Some told) ≡ entry.Refused c (length a.answers) (granule_of_task a.geometry t) found ∷ []
-    → front_at a.geometry c (length a.answers) s (Some t) ≡ []
+    → entries_at a.geometry c (length a.answers) s (Some t) ≡ []
     → IsCounted a.geometry c (length a.answers) t told (h ++ entry.Refused c (length a.answers) (granule_of_task a.geometry t) found ∷ [])
     → Stands a.geometry first words (set callers c (caller.Agent (goes_to (at_stage a s) (stage.Releasing (Some told))))) (h ++ known_entries a.geometry c (length a.answers) t (Some told))
 refuse first words callers h c a t s found told acting inside made open_none due_none gives entries front counted =
@@ -251,7 +253,7 @@ first_from task.Unknown found needs = absurd cc
 first_from (task.Look pa space) found needs = absurd cc
 
 -- nothing comes before the first change
-first_entries : (g : GeometryData) (c k : ℕ) (t : Task) (kept : Kept) → front_at g c k (stage.Changing (first_change t) kept) (Some t) ≡ []
+first_entries : (g : GeometryData) (c k : ℕ) (t : Task) (kept : Kept) → entries_at g c k (stage.Changing (first_change t) kept) (Some t) ≡ []
 first_entries g c k (task.Delegate pa source) kept = refl
 first_entries g c k (task.Undelegate pa source) kept = refl
 first_entries g c k task.Unknown kept = refl

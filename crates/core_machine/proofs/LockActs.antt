@@ -22,17 +22,17 @@ use Rattle.history.specs.Calls.{entries_by, answered_entries}
 use Rattle.delegate_ops.specs.declared.stage.Stage.{Stage}
 use Rattle.delegate_ops.specs.declared.stage.Stage.TheVariants as stage
 use Rattle.delegate_ops.specs.Deciding.{idle_answer, is_unusable}
-use Rattle.delegate_ops.specs.Agents.{AgentData, IsReadable, answered_first, idle_answers, lock_bit_of, goes_to, waits_at, after_answer, took_at}
+use Rattle.delegate_ops.specs.Agents.{AgentData, IsReadable, answered_first, idle_answers, goes_to, waits_at, after_answer, took_at}
 use Rattle.delegate_ops.proofs.AgentLemmas.{at_stage}
 use Rattle.core_machine.specs.declared.caller.Caller.{Caller}
 use Rattle.core_machine.specs.declared.caller.Caller.TheVariants as caller
-use Rattle.core_machine.specs.Callers.{made_at, own_of}
-use Rattle.core_machine.specs.Locks.{holds}
-use Rattle.core_machine.specs.Seen.{Sees}
-use Rattle.core_machine.specs.Opened.{open_by}
-use Rattle.core_machine.specs.Raised.{is_due, generation_word}
-use Rattle.core_machine.specs.Counted.{IsCounted, known_answers, caller_tasks}
-use Rattle.core_machine.specs.Stands.{IsMade, Stands}
+use Rattle.core_machine.specs.InnerCallers.{own_of}
+use Rattle.core_machine.specs.InnerLocks.{holds}
+use Rattle.core_machine.specs.InnerSeen.{Sees}
+use Rattle.core_machine.specs.InnerOpened.{open_by}
+use Rattle.core_machine.specs.InnerRaised.{is_due}
+use Rattle.core_machine.specs.InnerCounted.{known_answers, caller_tasks}
+use Rattle.core_machine.specs.InnerInvariant.{IsMade, Stands}
 use Rattle.core_machine.proofs.ListLemmas.{get_append}
 use Rattle.core_machine.proofs.LockLemmas.{holder_bit, take_free, take_held, release_held}
 use Rattle.core_machine.proofs.TableLemmas.{tables_keep, locks_apart}
@@ -40,6 +40,10 @@ use Rattle.core_machine.proofs.OthersLemmas.{generation_low, lock_apart, others_
 use Rattle.core_machine.proofs.ToldLemmas.{answered_call}
 use Rattle.core_machine.proofs.AloneLemmas.{alone_starts, own_numbers, no_own}
 use Rattle.core_machine.proofs.ActLemmas.{Acting, low_of, lock_of_task, state_of, mades_of, quiet_keep}
+use Rattle.core_machine.specs.Facts.{IsCounted, generation_word}
+use Rattle.delegate_ops.specs.Script.{lock_bit_of}
+use Rattle.delegate_ops.specs.InnerEntries.{made_at}
+use Rattle.delegate_ops.specs.Changing.{raised}
 
 -- what an act keeps that is made at a stage
 abbrev pub ActKeeps : List Gpi → List ℕ → List Caller → List Entry → ℕ → AgentData → Task → Stage → Act → Type 0

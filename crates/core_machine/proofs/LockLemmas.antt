@@ -10,7 +10,7 @@ use Rattle.std.proofs.lemmas.Nat.Bits.{bit_at-lt}
 use Rattle.bit_locks.specs.Locks.{lock_bit}
 use Rattle.bit_locks.proofs.BitLemmas.{taken_bit, released_bit, mask_free}
 use Rattle.core_machine.specs.declared.caller.Caller.{Caller}
-use Rattle.core_machine.specs.Locks.{holds, LocksAreHeld}
+use Rattle.core_machine.specs.InnerLocks.{holds, LocksAreHeld}
 use Rattle.core_machine.proofs.ListLemmas.{one, count_set}
 
 -- one caller steps, and the words change with what it holds

@@ -16,33 +16,34 @@ use Rattle.gpt_descriptors.specs.declared.size.Size.{Size}
 use Rattle.gpt_descriptors.specs.Sizes.{granule_bytes}
 use Rattle.gpt_descriptors.specs.Places.{GeometryData}
 use Rattle.shared_words.specs.declared.act.Act.{Act}
-use Rattle.shared_words.specs.Acts.{place_in, answer_of, after_act}
+use Rattle.shared_words.specs.Acts.{place_in, answer_of, after_act, said}
 use Rattle.history.specs.declared.entry.Entry.{Entry}
 use Rattle.history.specs.Entries.{caller_in}
 use Rattle.history.specs.Calls.{answered_entries}
 use Rattle.history.specs.declared.call.Task.{Task}
 use Rattle.history.specs.declared.call.Answer.{Answer}
 use Rattle.delegate_ops.specs.Agents.{AgentData, idle_answers}
-use Rattle.delegate_ops.specs.Script.{StandsAfter}
-use Rattle.delegate_ops.proofs.ScriptLemmas.{fresh_stands}
-use Rattle.core_machine.specs.Opened.{open_by, pairs_of}
-use Rattle.core_machine.specs.Seen.{Sees}
-use Rattle.core_machine.specs.Raised.{is_due}
-use Rattle.core_machine.specs.Counted.{IsCounted, known_answers}
+use Rattle.delegate_ops.proofs.ScriptLemmas.{fresh_walked}
+use Rattle.core_machine.specs.InnerOpened.{open_by, pairs_of}
+use Rattle.core_machine.specs.InnerSeen.{Sees}
+use Rattle.core_machine.specs.InnerRaised.{is_due}
+use Rattle.core_machine.specs.InnerCounted.{known_answers}
 use Rattle.core_machine.proofs.AloneLemmas.{undisturbed_empty}
 use Rattle.core_machine.proofs.OthersLemmas.{count_none}
 use Rattle.core_machine.proofs.LockActs.{idle_counted}
 use Rattle.core_machine.specs.declared.caller.Caller.{Caller}
 use Rattle.core_machine.specs.declared.caller.Caller.TheVariants as caller
-use Rattle.core_machine.specs.Callers.{caller_next, caller_took, own_of, MayTake}
-use Rattle.core_machine.specs.Locks.{holds}
-use Rattle.core_machine.specs.Stands.{IsMade, Stands}
-use Rattle.core_machine.specs.Opening.{IsFresh, AreStarting}
-use Rattle.core_machine.specs.Machine.{MachineData, StandsFor, after_act_of, told_of, after_turn_of, turn_told_of, after_turn, turn_told, after_turns, told_in}
-use Rattle.core_machine.specs.Play.{round_turns}
+use Rattle.core_machine.specs.InnerCallers.{caller_next, caller_took, own_of, MayTake}
+use Rattle.core_machine.specs.InnerLocks.{holds}
+use Rattle.core_machine.specs.InnerInvariant.{IsMade, Stands}
+use Rattle.core_machine.specs.InnerOpening.{IsFresh, AreStarting}
+use Rattle.core_machine.specs.InnerMachine.{MachineData, StandsFor, after_act_of, told_of, after_turn_of, turn_told_of, after_turn, turn_told, after_turns, told_in}
 use Rattle.core_machine.proofs.ListLemmas.{one}
 use Rattle.core_machine.proofs.ToldLemmas.{idle_entries}
 use Rattle.core_machine.proofs.LawLemmas.{one_act}
+use Rattle.core_machine.specs.Facts.{IsCounted}
+use Rattle.core_machine.specs.Scenarios.{round_turns}
+use Rattle.history.specs.States.{start}
 
 -- ---- one turn
 
@@ -114,7 +115,7 @@ none_holds n (x ∷ callers) none =
 
 fresh_made : (g : GeometryData) (x : Caller) → IsFresh g x → IsMade g x
 fresh_made g (caller.Agent a) is =
-    (ap (λ (b : AgentData). b.geometry) is.0, is.1, [], subst (λ (b : AgentData). StandsAfter b []) (sym is.0) (fresh_stands g a.tasks))
+    (ap (λ (b : AgentData). b.geometry) is.0, is.1, 0, [], subst (λ (b : AgentData). HasWalked 0 b []) (sym is.0) (fresh_walked g a.tasks 0))
 fresh_made g (caller.Cpu looks) is = tt
 
 fresh_own : (g : GeometryData) (c : ℕ) (x : Caller) → IsFresh g x → own_of c x ≡ []

@@ -31,8 +31,8 @@ use Rattle.table_build.proofs.MeaningLemmas.{built_word, built_block, built_fill
 use Rattle.shared_words.specs.Start.{start_words}
 use Rattle.shared_words.proofs.StartLemmas.{start_count, start_named}
 use Rattle.delegate_ops.specs.Deciding.{granule_place}
-use Rattle.core_machine.specs.Opening.{AreStarting}
-use Rattle.core_machine.specs.Tables.{table_gpi, table_word, MeansMap}
+use Rattle.core_machine.specs.InnerOpening.{AreStarting}
+use Rattle.core_machine.specs.InnerTables.{table_gpi, table_word, MeansMap}
 use Rattle.core_machine.proofs.TableLemmas.{granule_back}
 
 -- ---- lists

@@ -25,13 +25,13 @@ use Rattle.delegate_ops.specs.Agents.{AgentData, HasActs, task_of}
 use Rattle.delegate_ops.proofs.DecidingLemmas.{acts_usable}
 use Rattle.core_machine.specs.declared.caller.Caller.{Caller}
 use Rattle.core_machine.specs.declared.caller.Caller.TheVariants as caller
-use Rattle.core_machine.specs.Callers.{granule_of_task}
-use Rattle.core_machine.specs.Locks.{is_inside, holds, LocksAreHeld}
-use Rattle.core_machine.specs.Seen.{Sees, SeesAt, SeesWord}
-use Rattle.core_machine.specs.Stands.{IsMade, HasShape}
+use Rattle.core_machine.specs.InnerLocks.{is_inside, holds, LocksAreHeld}
+use Rattle.core_machine.specs.InnerSeen.{Sees, SeesAt, SeesWord}
+use Rattle.core_machine.specs.InnerInvariant.{IsMade, HasShape}
 use Rattle.core_machine.proofs.ListLemmas.{one}
 use Rattle.core_machine.proofs.LockLemmas.{some_pass}
 use Rattle.core_machine.proofs.TableLemmas.{granule_start, usable_aligned}
+use Rattle.delegate_ops.specs.Script.{granule_of_task}
 
 -- ---- two holders of one lock
 

@@ -23,13 +23,14 @@ use Rattle.history.specs.declared.call.Task.{Task}
 use Rattle.delegate_ops.specs.Agents.{IsAgent, is_look, task_of, fresh}
 use Rattle.delegate_ops.proofs.AgentLemmas.{idle_few, idle_then_acts, locking_fits}
 use Rattle.core_machine.specs.declared.caller.Caller.{Caller}
-use Rattle.core_machine.specs.Callers.{caller_next}
-use Rattle.core_machine.specs.Opening.{IsFresh, AreStarting}
-use Rattle.core_machine.specs.Machine.{MachineData, StandsFor, after_act_of, after_turn_of, after_turn, after_turns}
-use Rattle.core_machine.specs.Play.{task_of_ask, caller_of, geometry_of, opening_of, first_map, IsAccepted, NamesCaller, slot_turns, turns_in, played, played_history}
+use Rattle.core_machine.specs.InnerCallers.{caller_next}
+use Rattle.core_machine.specs.InnerOpening.{IsFresh, AreStarting}
+use Rattle.core_machine.specs.InnerMachine.{MachineData, StandsFor, after_act_of, after_turn_of, after_turn, after_turns}
+use Rattle.core_machine.specs.InnerPlay.{caller_of, opening_of, NamesCaller, played}
 use Rattle.core_machine.proofs.CallLemmas.{asks_no_looks}
 use Rattle.core_machine.proofs.MachineLemmas.{opening_stands, turns_stand}
 use Rattle.core_machine.proofs.OpeningLemmas.{built_starts}
+use Rattle.core_machine.specs.Scenarios.{IsAccepted, first_map, geometry_of, slot_turns, task_of_ask, turns_in}
 
 -- ---- callers
 

@@ -25,19 +25,18 @@ use Rattle.delegate_ops.specs.declared.stage.Kept.{Kept}
 use Rattle.delegate_ops.specs.declared.stage.Stage.{Stage}
 use Rattle.delegate_ops.specs.declared.stage.Stage.TheVariants as stage
 use Rattle.delegate_ops.specs.Deciding.{address_of, generation_in}
-use Rattle.delegate_ops.specs.Changing.{from_of, to_of, raised_at}
+use Rattle.delegate_ops.specs.Changing.{from_of, to_of, raised_at, raised}
 use Rattle.delegate_ops.specs.Agents.{AgentData, IsChangeOf, IsStage, task_of, kept_raised, raised_stage, goes_to, took_at}
 use Rattle.delegate_ops.proofs.DecidingLemmas.{acts_inside}
 use Rattle.delegate_ops.proofs.AgentLemmas.{at_stage}
 use Rattle.core_machine.specs.declared.caller.Caller.{Caller}
 use Rattle.core_machine.specs.declared.caller.Caller.TheVariants as caller
-use Rattle.core_machine.specs.Callers.{granule_of_task, made_at, front_at}
-use Rattle.core_machine.specs.Locks.{is_inside}
-use Rattle.core_machine.specs.Opened.{open_by, open_at}
-use Rattle.core_machine.specs.Seen.{comes_before, SeesGeneration, SeesAll, SeesAt}
-use Rattle.core_machine.specs.Raised.{is_due_at, is_due, generation_word}
-use Rattle.core_machine.specs.Counted.{IsCounted, coming_at}
-use Rattle.core_machine.specs.Stands.{IsMade, Stands}
+use Rattle.core_machine.specs.InnerLocks.{is_inside}
+use Rattle.core_machine.specs.InnerOpened.{open_by, open_at}
+use Rattle.core_machine.specs.InnerSeen.{comes_before, SeesGeneration, SeesAll, SeesAt}
+use Rattle.core_machine.specs.InnerRaised.{is_due_at, is_due}
+use Rattle.core_machine.specs.InnerCounted.{coming_at}
+use Rattle.core_machine.specs.InnerInvariant.{IsMade, Stands}
 use Rattle.core_machine.proofs.ListLemmas.{one}
 use Rattle.core_machine.proofs.TableLemmas.{tables_keep, generations_apart}
 use Rattle.core_machine.proofs.OthersLemmas.{generation_low, index_at, generation_apart, others_see, granule_address, region_at}
@@ -48,6 +47,9 @@ use Rattle.core_machine.proofs.ActLemmas.{Acting, low_of, state_of, holder_of, m
 use Rattle.core_machine.proofs.LockActs.{ActKeeps}
 use Rattle.core_machine.proofs.LoadActs.{seen_of, counts_from}
 use Rattle.core_machine.proofs.ChangeActs.{locks_stay, generation_other}
+use Rattle.core_machine.specs.Facts.{IsCounted, generation_word}
+use Rattle.delegate_ops.specs.InnerEntries.{entries_at, made_at}
+use Rattle.delegate_ops.specs.Script.{granule_of_task}
 
 -- ---- what a holder sees after its raise
 
@@ -202,7 +204,7 @@ pub record Settles (g : GeometryData) (first : List Gpi) (words : List ℕ) (h :
   pub closes : open_at g next (Some t) ≡ []
   pub owes : Owes ch size.FiveTwelve kept next
   pub sees : SeesAll g words t (to_of t ch) (kept_raised size.FiveTwelve kept) → SeesAt g words next (Some t)
-  pub front : front_at g c k next (Some t) ≡ front_at g c k (stage.Raising ch size.FiveTwelve kept) (Some t) ++ entry.Settled c k (granule_of_task g t) ∷ []
+  pub front : entries_at g c k next (Some t) ≡ entries_at g c k (stage.Raising ch size.FiveTwelve kept) (Some t) ++ entry.Settled c k (granule_of_task g t) ∷ []
   pub coming : (told : Answer) → coming_at next ≡ told ∷ [] → told ≡ answer.Done (kept_raised size.FiveTwelve kept).generations
 
 settle_first : (g : GeometryData) (first : List Gpi) (words : List ℕ) (h : List Entry) (c k : ℕ) (t : Task) (kept : Kept) → IsChangeOf t change.First → Settles g first words h c k t change.First kept (stage.Changing change.Last (kept_raised size.FiveTwelve kept))
@@ -287,7 +289,7 @@ raise_last first words callers h c a t ch k next acting low settles made =
           (done_counted g c (length a.answers) t (kept_raised size.FiveTwelve k).generations h
           (counts_from g.setup.first (granule_bytes g.setup) granule h (kept_raised size.FiveTwelve k).generations
           (settled_counts first words callers h c a t ch k acting sees)));
-      own = rw (acting.under_way, settles.front) (sym (append_assoc (answered_entries (granule_bytes g.setup) c 0 a.tasks a.answers) (front_at g c (length a.answers) s (Some t)) (e ∷ [])));
+      own = rw (acting.under_way, settles.front) (sym (append_assoc (answered_entries (granule_bytes g.setup) c 0 a.tasks a.answers) (entries_at g c (length a.answers) s (Some t)) (e ∷ [])));
     })
 
 -- ---- any raise

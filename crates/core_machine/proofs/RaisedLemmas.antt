@@ -19,13 +19,15 @@ use Rattle.delegate_ops.specs.Agents.{AgentData, task_of}
 use Rattle.delegate_ops.proofs.DecidingLemmas.{acts_inside}
 use Rattle.core_machine.specs.declared.caller.Caller.{Caller}
 use Rattle.core_machine.specs.declared.caller.Caller.TheVariants as caller
-use Rattle.core_machine.specs.Callers.{granule_of_task}
-use Rattle.core_machine.specs.Locks.{is_inside, LocksAreHeld}
-use Rattle.core_machine.specs.Seen.{SeesGeneration}
-use Rattle.core_machine.specs.Raised.{is_due_at, is_around, is_due, generation_word, GenerationsCount}
-use Rattle.core_machine.specs.Stands.{IsMade}
+use Rattle.core_machine.specs.InnerLocks.{is_inside, LocksAreHeld}
+use Rattle.core_machine.specs.InnerSeen.{SeesGeneration}
+use Rattle.core_machine.specs.InnerRaised.{is_due_at, is_around, is_due, GenerationsCount}
+use Rattle.core_machine.specs.InnerInvariant.{IsMade}
 use Rattle.core_machine.proofs.ListLemmas.{one, count_set}
 use Rattle.core_machine.proofs.OthersLemmas.{Holder, is_holder, other_number, same_region, region_at, count_alone}
+use Rattle.core_machine.specs.Facts.{generation_word}
+use Rattle.delegate_ops.specs.Script.{granule_of_task}
+use Rattle.delegate_ops.specs.Changing.{raised}
 
 pub generations_keep : (g : GeometryData) (words after : List ℕ) (callers : List Caller) (h : List Entry) (c : ℕ) (a x : Caller) (made : List Entry) → slice_get callers c ≡ Some a → GenerationsCount g words callers h
     → ((y : Size) (region : ℕ) → region < blocks_in_region y * g.setup.gigabytes

@@ -32,18 +32,17 @@ use Rattle.delegate_ops.specs.declared.stage.Stage.TheVariants as stage
 use Rattle.delegate_ops.specs.Deciding.{address_of}
 use Rattle.delegate_ops.specs.Agents.{AgentData, fresh, task_of, took_of}
 use Rattle.delegate_ops.proofs.DecidingLemmas.{acts_inside}
-use Rattle.delegate_ops.specs.Script.{Event, StandsAfter}
+use Rattle.delegate_ops.specs.Script.{CallEvent, granule_of_task}
 use Rattle.delegate_ops.proofs.ScriptLemmas.{some_mapped, fresh_stands, step_walks}
 use Rattle.core_machine.specs.declared.caller.Caller.{Caller}
 use Rattle.core_machine.specs.declared.caller.Caller.TheVariants as caller
-use Rattle.core_machine.specs.Callers.{granule_of_task, caller_next, caller_took, caller_answers, caller_left}
-use Rattle.core_machine.specs.Locks.{is_inside, holds}
-use Rattle.core_machine.specs.Raised.{is_due_at, is_around, is_due, generation_word}
-use Rattle.core_machine.specs.Counted.{IsCounted, coming_at}
-use Rattle.core_machine.specs.Stands.{IsMade, Stands}
-use Rattle.core_machine.specs.Machine.{MachineData, StandsFor, TraceEvent, after_act_of, event_of, after_turn_of, turn_event_of, turn_told, after_turn, after_turns, trace_of}
-use Rattle.core_machine.specs.Play.{task_of_ask, caller_of, geometry_of, opening_of, turns_in, first_map, played, played_history}
-use Rattle.core_machine.specs.Run.{tasks_of, events_of, TellsRun}
+use Rattle.core_machine.specs.InnerCallers.{caller_next, caller_took, caller_answers, caller_left}
+use Rattle.core_machine.specs.InnerLocks.{is_inside, holds}
+use Rattle.core_machine.specs.InnerRaised.{is_due_at, is_around, is_due}
+use Rattle.core_machine.specs.InnerCounted.{coming_at}
+use Rattle.core_machine.specs.InnerInvariant.{IsMade, Stands}
+use Rattle.core_machine.specs.InnerMachine.{MachineData, StandsFor, after_act_of, event_of, after_turn_of, turn_event_of, turn_told, after_turn, after_turns, trace_of}
+use Rattle.core_machine.specs.InnerPlay.{caller_of, opening_of, played}
 use Rattle.core_machine.proofs.ListLemmas.{one, get_set, get_front}
 use Rattle.core_machine.proofs.LockLemmas.{holder_bit}
 use Rattle.core_machine.proofs.ChangeLemmas.{means_canonical, means_covers}
@@ -55,6 +54,9 @@ use Rattle.core_machine.proofs.MachineLemmas.{turn_stands}
 use Rattle.core_machine.proofs.LegalLemmas.{HaveTasks, made_legal, made_calls, are_made}
 use Rattle.core_machine.proofs.PlayLemmas.{turns_geometry}
 use Rattle.core_machine.proofs.FitLemmas.{agent_tasks, took_tasks, turns_leave}
+use Rattle.core_machine.specs.Facts.{IsCounted, generation_word}
+use Rattle.core_machine.specs.Trace.{TraceEvent, events_of}
+use Rattle.core_machine.specs.Scenarios.{first_map, geometry_of, task_of_ask, tasks_of, turns_in}
 
 -- ---- each caller's events
 
@@ -64,11 +66,11 @@ of_append c xs ys =
     ∙ map-append (λ (e : TraceEvent). record { act = e.act; old = e.old }) (filter (λ e. eqb e.caller c) xs) (filter (λ e. eqb e.caller c) ys)
 
 -- an agent goes on from another by these events of its script
-abbrev GoesOn : AgentData → AgentData → List Event → Type 0
-GoesOn a b events = (before : List Event) → StandsAfter a before → StandsAfter b (before ++ events)
+abbrev GoesOn : AgentData → AgentData → List CallEvent → Type 0
+GoesOn a b events = (before : List CallEvent) → StandsAfter a before → StandsAfter b (before ++ events)
 
 -- where the agent at c comes from in a turn of d
-pub record Comes (m : MachineData) (c : ℕ) (b : AgentData) (events : List Event) : Type 0 where
+pub record Comes (m : MachineData) (c : ℕ) (b : AgentData) (events : List CallEvent) : Type 0 where
   pub from : AgentData
   pub at : slice_get m.callers c ≡ Some (caller.Agent from)
   pub goes : GoesOn from b events
@@ -111,7 +113,7 @@ turns_come first m h (d ∷ turns) c b stands there =
       from = now.from;
       at = now.at;
       goes = λ before stands_so.
-          subst (StandsAfter b) (append_assoc before (events_of c (turn_event_of m d (slice_get m.callers d))) (events_of c (trace_of (after_turn m d) turns)) ∙ ap (λ (es : List Event). before ++ es) (sym whole))
+          subst (StandsAfter b) (append_assoc before (events_of c (turn_event_of m d (slice_get m.callers d))) (events_of c (trace_of (after_turn m d) turns)) ∙ ap (λ (es : List CallEvent). before ++ es) (sym whole))
           (later.goes (before ++ events_of c (turn_event_of m d (slice_get m.callers d))) (now.goes before stands_so));
     }
 

@@ -13,7 +13,8 @@ use Rattle.gpt_descriptors.specs.Places.{GeometryData, IsGeometry, Generation, L
 use Rattle.gpt_descriptors.proofs.SizeLemmas.{granule_low, word_is, table_whole}
 use Rattle.gpt_descriptors.proofs.PlaceLemmas.{index_within, place_distinct, generation_named}
 use Rattle.delegate_ops.specs.Deciding.{granule_place, is_unusable}
-use Rattle.core_machine.specs.Tables.{gpi_by, table_gpi, table_word, MeansMap}
+use Rattle.core_machine.specs.InnerTables.{gpi_by, table_gpi, table_word, MeansMap}
+use Rattle.history.specs.States.{start}
 
 -- ---- acts elsewhere
 

@@ -19,8 +19,8 @@ use Rattle.history.specs.Calls.{entries_by, call_entries, answered_entries}
 use Rattle.delegate_ops.specs.Deciding.{is_unusable, idle_answer}
 use Rattle.delegate_ops.specs.Agents.{answered_first, idle_answers}
 use Rattle.core_machine.specs.declared.caller.Caller.{Caller}
-use Rattle.core_machine.specs.Callers.{own_of}
-use Rattle.core_machine.specs.Told.{AreAllowed, Tells}
+use Rattle.core_machine.specs.InnerCallers.{own_of}
+use Rattle.core_machine.specs.InnerHistory.{AreAllowed, Tells}
 use Rattle.core_machine.proofs.ListLemmas.{get_set}
 
 -- ---- what an act may add: nothing, or one entry of the call under way

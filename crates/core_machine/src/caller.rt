@@ -1,5 +1,5 @@
 ghost use Rattle.std.specs.Prelude.{◌≡◌, IsSome};
-ghost use Rattle.core_machine.specs.Callers.{caller_next, caller_took, caller_waits, caller_answers, caller_left, MayTake};
+ghost use Rattle.core_machine.specs.InnerCallers.{caller_next, caller_took, caller_waits, caller_answers, caller_left, MayTake};
 
 use delegate_ops::Agent;
 use history::Answer;

@@ -1,7 +1,9 @@
 ghost use Rattle.std.specs.Prelude.{◌≡◌, IfOk, map, if◌then◌else◌};
-ghost use Rattle.core_machine.specs.Play.{task_of_ask, caller_of};
+ghost use Rattle.core_machine.specs.InnerPlay.{caller_of};
 ghost use Rattle.rmm_calls.specs.Codes.{is_admitted};
 ghost use Rattle.history.specs.declared.call.Task.TheVariants as the_task;
+ghost use Rattle.delegate_ops.specs.Agents.{task_of};
+ghost use Rattle.core_machine.specs.Scenarios.{task_of_ask, tasks_of};
 
 use crate::caller::Caller;
 use delegate_ops::{Agent, Task};

@@ -2,9 +2,9 @@ ghost use Rattle.std.specs.Prelude.{◌≡◌, [], IfOk, length, map, count_by};
 ghost use Rattle.gpt_descriptors.specs.Places.{IsGeometry, word_count};
 ghost use Rattle.scenario_text.specs.Spelling.{WellFormed};
 ghost use Rattle.table_build.specs.Built.{tables_of};
-ghost use Rattle.core_machine.specs.Callers.{caller_answers};
-ghost use Rattle.core_machine.specs.Machine.{StandsFor};
-ghost use Rattle.core_machine.specs.Play.{IsAccepted, geometry_of, is_cpu, opening_of, first_map, played, played_history, outcome_of, AreAnswersOf};
+ghost use Rattle.core_machine.specs.InnerCallers.{caller_answers};
+ghost use Rattle.core_machine.specs.InnerMachine.{StandsFor};
+ghost use Rattle.core_machine.specs.InnerPlay.{IsAccepted, geometry_of, is_cpu, opening_of, first_map, played, played_history, outcome_of, AreAnswersOf};
 ghost use Rattle.core_machine.specs.Run.{TellsRun};
 
 use crate::caller::Caller;

@@ -1,5 +1,5 @@
 -- What a transition is answered, and by what.
-use Rattle.std.specs.Prelude.{ℕ, ◌/◌, ◌%◌, Bool, true, false, not, ◌||◌, ◌==◌, nat_lt, [], ◌∷◌, Option, Some, None, if◌then◌else◌}
+use Rattle.std.specs.Prelude.{◌≡◌, ℕ, ◌/◌, ◌%◌, Bool, true, false, not, ◌||◌, ◌==◌, nat_lt, [], ◌∷◌, Option, Some, None, if◌then◌else◌, MatchOption}
 use Rattle.std.specs.List.{find}
 use Rattle.std.specs.Option.{option_map}
 use Rattle.gpi_values.specs.declared.gpi.Gpi.{Gpi}
@@ -78,3 +78,15 @@ generation_in size.FiveTwelve k = k.five_twelve
 abbrev pub worn_answer : Generations → Option Answer
 worn_answer k =
     option_map (λ z. answer.Worn z (generation_in z k)) (find (λ z. is_worn (generation_in z k)) (size.Two ∷ size.ThirtyTwo ∷ size.FiveTwelve ∷ []))
+
+-- ---- causes
+
+-- an answer of a task without acts
+abbrev pub is_idle : Answer → Bool
+is_idle answer.Inval = true
+is_idle answer.Unknown = true
+is_idle a = false
+
+-- Inval and Unknown are the answers of exactly the tasks without acts, each by its cause
+abbrev pub HasCause : GeometryData → Task → Answer → Type 0
+HasCause g t told = MatchOption (idle_answer g t) (is_idle told ≡ false) (λ idle. told ≡ idle)

@@ -15,8 +15,8 @@ use Rattle.scenario_text.specs.declared.scenario.Script.{Script}
 use Rattle.scenario_text.specs.declared.scenario.Script.TheVariants as script
 use Rattle.report_text.specs.RunText.{is_smc, script_calls, FitsScenario, AreAnswersOf}
 use Rattle.report_text.proofs.CallerLemmas.{from_get_or}
-use Rattle.core_machine.specs.Play.{IsAccepted, calls_in}
-use Rattle.core_machine.specs.Play.{AreAnswersOf as AreFewAnswersOf}
+use Rattle.core_machine.specs.InnerPlay.{IsAccepted, calls_in}
+use Rattle.core_machine.specs.InnerPlay.{AreAnswersOf as AreFewAnswersOf}
 use Rattle.gpt_cli.specs.declared.command.Command.{Command}
 use Rattle.gpt_cli.specs.declared.command.Command.TheVariants as command
 use Rattle.gpt_cli.specs.Upheld.{TablesMean, Upholds}

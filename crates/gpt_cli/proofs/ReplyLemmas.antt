@@ -11,7 +11,7 @@ use Rattle.scenario_text.specs.Faults.{first_bad}
 use Rattle.region_plan.specs.Refusals.{refusal}
 use Rattle.table_build.specs.Built.{is_bad_base}
 use Rattle.history.specs.declared.outcome.Outcome.{Outcome}
-use Rattle.core_machine.specs.Play.{played, outcome_of}
+use Rattle.core_machine.specs.InnerPlay.{played, outcome_of}
 use Rattle.gpt_cli.specs.declared.command.Command.{Command}
 use Rattle.gpt_cli.specs.declared.command.Command.TheVariants as command
 use Rattle.gpt_cli.specs.declared.reply.Reply.{Reply}

@@ -12,7 +12,7 @@ use Rattle.report_text.specs.declared.run.Mode.TheVariants as mode
 use Rattle.report_text.specs.RunText.{script_calls, report_of_run}
 use Rattle.history.specs.declared.call.Answer.{Answer}
 use Rattle.history.specs.declared.outcome.Outcome.{Outcome}
-use Rattle.core_machine.specs.Play.{played, outcome_of}
+use Rattle.core_machine.specs.InnerPlay.{played, outcome_of}
 use Rattle.gpt_stream.specs.declared.input.TheConstants.{INPUT_LIMIT}
 use Rattle.gpt_cli.specs.declared.command.Command.{Command}
 use Rattle.gpt_cli.specs.declared.command.Command.TheVariants as command

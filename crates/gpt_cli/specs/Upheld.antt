@@ -11,7 +11,7 @@ use Rattle.region_plan.specs.declared.region.Region.{Region}
 use Rattle.region_plan.specs.Regions.{region_map, region_l0}
 use Rattle.table_build.specs.Built.{region_l1}
 use Rattle.scenario_text.specs.declared.scenario.Scenario.{Scenario}
-use Rattle.core_machine.specs.Play.{IsAccepted, played, played_history}
+use Rattle.core_machine.specs.InnerPlay.{IsAccepted, played, played_history}
 use Rattle.core_machine.specs.Run.{TellsRun}
 use Rattle.gpt_cli.specs.declared.command.Command.{Command}
 use Rattle.gpt_cli.specs.declared.command.Command.TheVariants as command

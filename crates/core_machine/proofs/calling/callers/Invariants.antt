@@ -1,5 +1,5 @@
 use Rattle.std.proofs.Common.{◌≡◌, map, take}
-use Rattle.core_machine.specs.Play.{caller_of}
+use Rattle.core_machine.specs.InnerPlay.{caller_of}
 use Rattle.core_machine.proofs.calling.callers.Given as goal
 
 abbrev pub invariant-loop-script : goal.invariant-loop-script

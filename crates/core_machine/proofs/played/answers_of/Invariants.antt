@@ -1,5 +1,5 @@
 use Rattle.std.proofs.Common.{◌≡◌, map, take}
-use Rattle.core_machine.specs.Callers.{caller_answers}
+use Rattle.core_machine.specs.InnerCallers.{caller_answers}
 use Rattle.core_machine.proofs.played.answers_of.Given as goal
 
 abbrev pub invariant-loop-caller : goal.invariant-loop-caller

@@ -2,13 +2,13 @@ use Rattle.std.proofs.Common.{◌≡◌, List, [], length, sym, ap, ◌∙◌, s
 use Rattle.std.specs.Prelude.{IfOk}
 use Rattle.std.specs.List.{All, flat_map}
 use Rattle.scenario_text.specs.declared.scenario.Slot.{Slot}
-use Rattle.core_machine.specs.Machine.{MachineData, StandsFor, after_turns}
-use Rattle.core_machine.specs.Play.{NamesCaller, slot_turns, first_map, played, played_history, outcome_of}
+use Rattle.core_machine.specs.InnerMachine.{MachineData, StandsFor, after_turns}
+use Rattle.core_machine.specs.InnerPlay.{NamesCaller, played, outcome_of}
 use Rattle.core_machine.proofs.PlayLemmas.{names_at, played_is, played_stands, always}
-use Rattle.core_machine.specs.Run.{TellsRun}
 use Rattle.core_machine.proofs.RunLemmas.{run_told}
 use Rattle.core_machine.proofs.FitLemmas.{size_of, answers_of}
 use Rattle.core_machine.proofs.played.play.Goals as goal
+use Rattle.core_machine.specs.Scenarios.{first_map, slot_turns}
 
 pub schedule-requires-clause-names : goal.schedule-requires-clause-names
 schedule-requires-clause-names c =

@@ -1,6 +1,6 @@
 use Rattle.std.proofs.Common.{◌≡◌, replicate}
 use Rattle.std.specs.List.{flat_map, range_with_len}
-use Rattle.core_machine.specs.Machine.{after_turns}
+use Rattle.core_machine.specs.InnerMachine.{after_turns}
 use Rattle.core_machine.proofs.machine.Machine.round.Given as goal
 
 abbrev pub invariant-loop-caller : goal.invariant-loop-caller

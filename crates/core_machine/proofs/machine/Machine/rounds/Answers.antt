@@ -1,9 +1,9 @@
 use Rattle.std.proofs.Common.{◌+◌, ℕ, length, ap, ◌∙◌}
 use Rattle.std.specs.List.{flat_map, range_with_len}
-use Rattle.core_machine.specs.Machine.{after_turns}
-use Rattle.core_machine.specs.Play.{round_turns}
+use Rattle.core_machine.specs.InnerMachine.{after_turns}
 use Rattle.core_machine.proofs.MachineLemmas.{stands_after, length_so, turns_more, range_front}
 use Rattle.core_machine.proofs.machine.Machine.rounds.Goals as goal
+use Rattle.core_machine.specs.Scenarios.{round_turns}
 
 pub round-requires : goal.round-requires
 round-requires g c =

@@ -1,10 +1,11 @@
 use Rattle.std.proofs.Common.{◌+◌, ℕ, length, take, get_or, sym, ap, ◌∙◌, subst}
 use Rattle.std.specs.List.{flat_map}
 use Rattle.scenario_text.specs.declared.scenario.Slot.TheVariants as slot
-use Rattle.core_machine.specs.Machine.{after_turns}
-use Rattle.core_machine.specs.Play.{slot_turns, NamesCaller}
+use Rattle.core_machine.specs.InnerMachine.{after_turns}
+use Rattle.core_machine.specs.InnerPlay.{NamesCaller}
 use Rattle.core_machine.proofs.MachineLemmas.{stands_after, length_so, turns_more, slots_more}
 use Rattle.core_machine.proofs.machine.Machine.schedule.Goals as goal
+use Rattle.core_machine.specs.Scenarios.{slot_turns}
 
 pub slot-requires-clause-stands : goal.slot-requires-clause-stands
 slot-requires-clause-stands g c =

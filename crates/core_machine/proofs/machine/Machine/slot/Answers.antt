@@ -2,10 +2,10 @@ use Rattle.std.proofs.Common.{◌≡◌, ℕ, List, length, sym, ap, ◌∙◌}
 use Rattle.std.proofs.lemmas.Bool.{eqb-true}
 use Rattle.scenario_text.specs.declared.scenario.Slot.{Slot}
 use Rattle.core_machine.specs.declared.caller.Caller.{Caller}
-use Rattle.core_machine.specs.Machine.{after_turns}
-use Rattle.core_machine.specs.Play.{slot_turns}
+use Rattle.core_machine.specs.InnerMachine.{after_turns}
 use Rattle.core_machine.proofs.MachineLemmas.{no_rounds}
 use Rattle.core_machine.proofs.machine.Machine.slot.Goals as goal
+use Rattle.core_machine.specs.Scenarios.{slot_turns}
 
 pub returns-in-Round : goal.returns-in-Round
 returns-in-Round g c =

@@ -1,6 +1,6 @@
 use Rattle.std.proofs.Common.{◌<◌, ◌++◌, length, sym, ap, ◌∙◌, subst}
-use Rattle.core_machine.specs.Callers.{MayTake}
-use Rattle.core_machine.specs.Machine.{MachineData, StandsFor, after_turn, turn_told}
+use Rattle.core_machine.specs.InnerCallers.{MayTake}
+use Rattle.core_machine.specs.InnerMachine.{MachineData, StandsFor, after_turn, turn_told}
 use Rattle.core_machine.proofs.MachineLemmas.{may_act, acted, kept, turn_stands}
 use Rattle.core_machine.proofs.machine.Machine.turn.Goals as goal
 

@@ -1,5 +1,5 @@
 use Rattle.std.proofs.Common.{◌≡◌, replicate}
-use Rattle.core_machine.specs.Machine.{after_turns}
+use Rattle.core_machine.specs.InnerMachine.{after_turns}
 use Rattle.core_machine.proofs.machine.Machine.turns.Given as goal
 
 abbrev pub invariant-loop : goal.invariant-loop

@@ -8,7 +8,7 @@ use Rattle.history.specs.States.{State, start, after_entry}
 use Rattle.history.specs.Legality.{StateAllows}
 use Rattle.history.specs.Calls.{entries_by}
 use Rattle.core_machine.specs.declared.caller.Caller.{Caller}
-use Rattle.core_machine.specs.Callers.{own_of}
+use Rattle.core_machine.specs.InnerCallers.{own_of}
 
 -- each entry is allowed by the state that the entries before it leave
 abbrev pub AreAllowed : State → List Entry → Type 0

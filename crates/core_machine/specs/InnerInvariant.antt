@@ -7,21 +7,23 @@ use Rattle.gpt_descriptors.specs.Places.{GeometryData, IsGeometry, word_count}
 use Rattle.history.specs.declared.entry.Entry.{Entry}
 use Rattle.history.specs.States.{start, state_after}
 use Rattle.delegate_ops.specs.Agents.{IsAgent}
-use Rattle.delegate_ops.specs.Script.{Event, StandsAfter}
+use Rattle.delegate_ops.specs.Script.{CallEvent}
 use Rattle.core_machine.specs.declared.caller.Caller.{Caller}
 use Rattle.core_machine.specs.declared.caller.Caller.TheVariants as caller
-use Rattle.core_machine.specs.Tables.{MeansMap}
-use Rattle.core_machine.specs.Locks.{LocksAreHeld}
-use Rattle.core_machine.specs.Opened.{OpenAreHeld}
-use Rattle.core_machine.specs.Seen.{Sees}
-use Rattle.core_machine.specs.Raised.{GenerationsCount}
-use Rattle.core_machine.specs.Alone.{AreUndisturbed, HoldersAreAlone}
-use Rattle.core_machine.specs.Counted.{AnswersCount}
-use Rattle.core_machine.specs.Told.{Tells}
+use Rattle.core_machine.specs.InnerTables.{MeansMap}
+use Rattle.core_machine.specs.InnerLocks.{LocksAreHeld}
+use Rattle.core_machine.specs.InnerOpened.{OpenAreHeld}
+use Rattle.core_machine.specs.InnerSeen.{Sees}
+use Rattle.core_machine.specs.InnerRaised.{GenerationsCount}
+use Rattle.core_machine.specs.InnerAlone.{HoldersAreAlone}
+use Rattle.core_machine.specs.InnerCounted.{AnswersCount}
+use Rattle.core_machine.specs.InnerHistory.{Tells}
+use Rattle.core_machine.specs.Facts.{AreUndisturbed}
+use Rattle.delegate_ops.specs.InnerScript.{HasWalked}
 
--- the caller was made with this geometry and stands at the end of some events of its script
+-- the caller was made with this geometry, and has come to its stage by some events of its script
 abbrev pub IsMade : GeometryData → Caller → Type 0
-IsMade g (caller.Agent a) = (a.geometry ≡ g) × IsAgent a × (events : List Event) × StandsAfter a events
+IsMade g (caller.Agent a) = (a.geometry ≡ g) × IsAgent a × (c : ℕ) × (events : List CallEvent) × HasWalked c a events
 IsMade g (caller.Cpu looks) = Unit {0}
 
 pub record HasShape (g : GeometryData) (first : List Gpi) (words : List ℕ) (callers : List Caller) : Type 0 where

@@ -6,8 +6,8 @@ use Rattle.shared_words.specs.declared.act.Act.{Act}
 use Rattle.shared_words.specs.Acts.{place_in, answer_of, after_act}
 use Rattle.history.specs.declared.entry.Entry.{Entry}
 use Rattle.core_machine.specs.declared.caller.Caller.{Caller}
-use Rattle.core_machine.specs.Callers.{caller_next, caller_took, made_by, MayTake}
-use Rattle.core_machine.specs.Stands.{Stands}
+use Rattle.core_machine.specs.InnerCallers.{caller_next, caller_took, made_by, MayTake}
+use Rattle.core_machine.specs.InnerInvariant.{Stands}
 
 abbrev pub OneActKeeps : Type 0
 OneActKeeps =

@@ -11,13 +11,7 @@ use Rattle.delegate_ops.specs.declared.stage.Stage.{Stage}
 use Rattle.delegate_ops.specs.declared.stage.Stage.TheVariants as stage
 use Rattle.core_machine.specs.declared.caller.Caller.{Caller}
 use Rattle.core_machine.specs.declared.caller.Caller.TheVariants as caller
-use Rattle.core_machine.specs.Callers.{granule_of_task}
-
--- the generations that call k of caller c is answered are the counts of the history
-abbrev pub IsCounted : GeometryData → ℕ → ℕ → Task → Answer → List Entry → Type 0
-IsCounted g c k t (answer.Done told) h = AreDoneCounts g.setup.first (granule_bytes g.setup) c k (granule_of_task g t) told h
-IsCounted g c k t (answer.Worn z value) h = IsWornCount g.setup.first (granule_bytes g.setup) c k (granule_of_task g t) z value h
-IsCounted g c k t told h = Unit {0}
+use Rattle.core_machine.specs.Facts.{IsCounted}
 
 -- the answer that the call under way is to have, where it is known
 abbrev pub coming_at : Stage → List Answer

@@ -11,6 +11,7 @@ use Rattle.gpt_descriptors.specs.Canonical.{canonical_word, CoversEqual}
 use Rattle.gpt_descriptors.specs.Level0.{l1_index}
 use Rattle.gpt_descriptors.specs.Places.{GeometryData, Level1, place_of, l0_words, l1_words, l1_place_of, block_gpi_of}
 use Rattle.delegate_ops.specs.Deciding.{granule_place}
+use Rattle.core_machine.specs.Scenarios.{map_at}
 
 -- the GPI that the tables give the granule of an address: that of its L0 block, or that of its L1 word
 abbrev pub gpi_by : GeometryData → List ℕ → ℕ → Option ℕ → Option Gpi
@@ -32,10 +33,6 @@ pub record MeansMap (g : GeometryData) (words : List ℕ) (map : List Gpi) : Typ
       → table_word g words j ≡ table_word g words i
   pub permitted : (i : ℕ) (z : Size) (gpi : Gpi) → i < l1_words g → l1_entry (table_word g words i) ≡ Some (l1.Contig z gpi) → is_permitted g.setup.max z ≡ true
   pub bounded : (i : ℕ) → i < l1_words g → table_word g words i < 2 ^ 64
-
--- the map as a function: any access outside it
-abbrev pub map_at : List Gpi → ℕ → Gpi
-map_at map granule = get_or map granule gpi.Any
 
 -- each L1 word is the canonical word of the map
 abbrev pub AreCanonical : GeometryData → List ℕ → List Gpi → Type 0

@@ -7,8 +7,8 @@ use Rattle.gpt_descriptors.specs.Places.{GeometryData, IsGeometry, Lock, place_o
 use Rattle.delegate_ops.specs.Agents.{IsAgent, fresh}
 use Rattle.core_machine.specs.declared.caller.Caller.{Caller}
 use Rattle.core_machine.specs.declared.caller.Caller.TheVariants as caller
-use Rattle.core_machine.specs.Raised.{generation_word}
-use Rattle.core_machine.specs.Tables.{MeansMap}
+use Rattle.core_machine.specs.InnerTables.{MeansMap}
+use Rattle.core_machine.specs.Facts.{generation_word}
 
 -- the caller was made with this geometry and has made no act
 abbrev pub IsFresh : GeometryData → Caller → Type 0

@@ -6,8 +6,9 @@ use Rattle.shared_words.specs.declared.act.Act.{Act}
 use Rattle.shared_words.specs.Acts.{answer_of, after_act}
 use Rattle.history.specs.declared.entry.Entry.{Entry}
 use Rattle.core_machine.specs.declared.caller.Caller.{Caller}
-use Rattle.core_machine.specs.Callers.{caller_next, caller_took, made_by}
-use Rattle.core_machine.specs.Stands.{Stands}
+use Rattle.core_machine.specs.InnerCallers.{caller_next, caller_took, made_by}
+use Rattle.core_machine.specs.InnerInvariant.{Stands}
+use Rattle.core_machine.specs.Trace.{TraceEvent}
 
 pub record MachineData : Type 0 where
   pub geometry : GeometryData
@@ -20,12 +21,6 @@ StandsFor first m h = Stands m.geometry first m.words m.callers h
 
 -- ---- one turn
 
--- an event of a trace: a caller, an act, and the word that the act answered
-pub record TraceEvent : Type 0 where
-  pub caller : ℕ
-  pub act : Act
-  pub old : ℕ
-
 -- the next act of a caller is made on the words
 abbrev pub after_act_of : MachineData → ℕ → Caller → Option Act → MachineData
 after_act_of m c a None = m
@@ -35,9 +30,9 @@ after_act_of m c a (Some t) = record {
   words = after_act t m.words;
 }
 
-abbrev pub event_of : MachineData → ℕ → Option Act → List TraceEvent
-event_of m c None = []
-event_of m c (Some t) = record { caller = c; act = t; old = answer_of t m.words } ∷ []
+abbrev pub event_of : MachineData → ℕ → Caller → Option Act → List TraceEvent
+event_of m c a None = []
+event_of m c a (Some t) = record { caller = c; event = record { act = t; old = answer_of t m.words; made = made_by c a (answer_of t m.words) } } ∷ []
 
 abbrev pub told_of : MachineData → ℕ → Caller → Option Act → List Entry
 told_of m c a None = []
@@ -53,7 +48,7 @@ after_turn m c = after_turn_of m c (slice_get m.callers c)
 
 abbrev pub turn_event_of : MachineData → ℕ → Option Caller → List TraceEvent
 turn_event_of m c None = []
-turn_event_of m c (Some a) = event_of m c (caller_next a)
+turn_event_of m c (Some a) = event_of m c a (caller_next a)
 
 abbrev pub turn_told_of : MachineData → ℕ → Option Caller → List Entry
 turn_told_of m c None = []

@@ -19,6 +19,7 @@ use Rattle.delegate_ops.specs.Changing.{from_of, to_of, with_generation}
 use Rattle.delegate_ops.specs.Agents.{task_of, next_of, took_of, IsReadable}
 use Rattle.core_machine.specs.declared.caller.Caller.{Caller}
 use Rattle.core_machine.specs.declared.caller.Caller.TheVariants as caller
+use Rattle.delegate_ops.specs.InnerEntries.{entries_at, made_at}
 
 -- ---- acts and answers
 
@@ -54,48 +55,14 @@ call_of (caller.Cpu looks) = 0
 
 -- ---- entries
 
--- the granule of a task
-abbrev pub granule_of_task : GeometryData → Task → ℕ
-granule_of_task g t = address_of t / granule_bytes g.setup
-
--- the entries of a call whose answer is known, if it is
-abbrev pub known_entries : GeometryData → ℕ → ℕ → Task → Option Answer → List Entry
-known_entries g c k t None = []
-known_entries g c k t (Some answer) = call_entries (granule_bytes g.setup) c k t answer
-
--- the entry of a change
-abbrev pub change_entry : GeometryData → ℕ → ℕ → Task → Change → Entry
-change_entry g c k t ch = entry.Changed c k (granule_of_task g t) (from_of t ch) (to_of t ch)
-
--- the entries that the next act of a task makes at a stage, where it answers this word
-abbrev pub made_at : GeometryData → ℕ → ℕ → Stage → Option Task → ℕ → List Entry
-made_at g c k stage.Looking (Some t) old = known_entries g c k t (looked_answer g t old)
-made_at g c k (stage.Reading size.FiveTwelve kept) (Some t) old = known_entries g c k t (worn_answer (with_generation size.FiveTwelve old kept.generations))
-made_at g c k (stage.Changing ch kept) (Some t) old = change_entry g c k t ch ∷ []
-made_at g c k (stage.Raising ch size.FiveTwelve kept) (Some t) old = entry.Settled c k (granule_of_task g t) ∷ []
-made_at g c k s t old = []
-
 -- the entries that the next act of caller number c makes
 abbrev pub made_by : ℕ → Caller → ℕ → List Entry
 made_by c (caller.Agent a) old = made_at a.geometry c (length a.answers) a.stage (task_of a) old
 made_by c (caller.Cpu looks) old = []
 
--- the entries of a call before a change: only the last change of an undelegate has some
-abbrev pub entries_before : GeometryData → ℕ → ℕ → Task → Change → List Entry
-entries_before g c k (task.Undelegate pa source) change.Last =
-    change_entry g c k (task.Undelegate pa source) change.First ∷ entry.Settled c k (granule_of_task g (task.Undelegate pa source)) ∷ []
-entries_before g c k t ch = []
-
--- the entries that the call under way has made at a stage
-abbrev pub front_at : GeometryData → ℕ → ℕ → Stage → Option Task → List Entry
-front_at g c k (stage.Changing ch kept) (Some t) = entries_before g c k t ch
-front_at g c k (stage.Raising ch z kept) (Some t) = entries_before g c k t ch ++ change_entry g c k t ch ∷ []
-front_at g c k (stage.Releasing answer) (Some t) = known_entries g c k t answer
-front_at g c k s t = []
-
 -- all entries that caller number c has made
 abbrev pub own_of : ℕ → Caller → List Entry
 own_of c (caller.Agent a) =
     answered_entries (granule_bytes a.geometry.setup) c 0 a.tasks a.answers
-    ++ front_at a.geometry c (length a.answers) a.stage (task_of a)
+    ++ entries_at a.geometry c (length a.answers) a.stage (task_of a)
 own_of c (caller.Cpu looks) = []

@@ -11,8 +11,9 @@ use Rattle.delegate_ops.specs.declared.stage.Stage.TheVariants as stage
 use Rattle.delegate_ops.specs.Agents.{task_of}
 use Rattle.core_machine.specs.declared.caller.Caller.{Caller}
 use Rattle.core_machine.specs.declared.caller.Caller.TheVariants as caller
-use Rattle.core_machine.specs.Callers.{granule_of_task}
-use Rattle.core_machine.specs.Seen.{comes_before}
+use Rattle.core_machine.specs.InnerSeen.{comes_before}
+use Rattle.core_machine.specs.Facts.{generation_word}
+use Rattle.delegate_ops.specs.Script.{granule_of_task}
 
 -- the call under way has changed its granule, and not yet raised the generation of size y
 abbrev pub is_due_at : Stage → Size → Bool
@@ -26,9 +27,6 @@ is_around g y region (Some t) = region_of (granule_bytes g.setup) y (granule_of_
 abbrev pub is_due : Size → ℕ → Caller → Bool
 is_due y region (caller.Agent a) = is_due_at a.stage y && is_around a.geometry y region (task_of a)
 is_due y region (caller.Cpu looks) = false
-
-abbrev pub generation_word : GeometryData → List ℕ → Size → ℕ → ℕ
-generation_word g words y region = slice_index words (place_of g (Generation y region))
 
 abbrev pub GenerationsCount : GeometryData → List ℕ → List Caller → List Entry → Type 0
 GenerationsCount g words callers h =

@@ -10,7 +10,7 @@ use Rattle.delegate_ops.specs.Changing.{from_of}
 use Rattle.delegate_ops.specs.Agents.{task_of}
 use Rattle.core_machine.specs.declared.caller.Caller.{Caller}
 use Rattle.core_machine.specs.declared.caller.Caller.TheVariants as caller
-use Rattle.core_machine.specs.Callers.{granule_of_task}
+use Rattle.delegate_ops.specs.Script.{granule_of_task}
 
 -- the granule and its former GPI, where the call under way has changed it and not yet raised all generations
 abbrev pub open_at : GeometryData → Stage → Option Task → List (ℕ × Gpi)

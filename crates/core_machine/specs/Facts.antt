@@ -1,0 +1,101 @@
+-- What callers leave fits a history: over plain data, with no scenario and no schedule.
+use Rattle.std.specs.Prelude.{◌≡◌, ◌⊎◌, ℕ, ◌+◌, ◌*◌, ◌<◌, Bool, true, false, ◌&&◌, ◌==◌, List, ◌∷◌, ◌++◌, length, take, drop, slice_index, Some, None}
+use Rattle.std.specs.List.{All, list_any}
+use Rattle.gpi_values.specs.declared.gpi.Gpi.{Gpi}
+use Rattle.gpt_descriptors.specs.declared.size.Size.{Size}
+use Rattle.gpt_descriptors.specs.declared.size.MaxBlock.TheVariants as most
+use Rattle.gpt_descriptors.specs.Sizes.{SetupData, granule_bytes, size_bytes}
+use Rattle.gpt_descriptors.specs.Places.{GeometryData, Generation, Duty, Level1, Line, place_of, l0_words, l1_words, blocks_in_region, word_count}
+use Rattle.table_meaning.specs.Meaning.{TablesMean, AreCanonical}
+use Rattle.bit_locks.specs.Locks.{lock_number, lock_bit}
+use Rattle.history.specs.declared.call.Task.{Task}
+use Rattle.history.specs.declared.call.Answer.{Answer}
+use Rattle.history.specs.declared.call.Answer.TheVariants as answer
+use Rattle.history.specs.declared.entry.Entry.{Entry}
+use Rattle.history.specs.declared.entry.Entry.TheVariants as entry
+use Rattle.history.specs.States.{start, state_after}
+use Rattle.history.specs.Legality.{needed}
+use Rattle.history.specs.Calls.{task_at, answer_at, IsLegalHistory, TellsCalls}
+use Rattle.history.specs.Counts.{is_by, count_of, AreDoneCounts, IsWornCount}
+use Rattle.delegate_ops.specs.Deciding.{HasCause}
+use Rattle.delegate_ops.specs.Script.{granule_of_task}
+use Rattle.core_machine.specs.Scenarios.{map_at}
+
+-- ---- transitions on one lock block
+
+-- the granule is in lock block n
+abbrev pub is_in_block : SetupData → ℕ → ℕ → Bool
+is_in_block s n granule = lock_number s (granule * granule_bytes s) == n
+
+-- an entry of a transition on a granule of lock block n
+abbrev pub is_on_block : SetupData → ℕ → Entry → Bool
+is_on_block s n (entry.Refused c k granule found) = is_in_block s n granule
+is_on_block s n (entry.Changed c k granule from to) = is_in_block s n granule
+is_on_block s n (entry.Settled c k granule) = is_in_block s n granule
+is_on_block s n (entry.Looked c k granule space gpi allowed) = false
+
+-- an entry on a lock block between two entries of a call on that block is of that call
+abbrev pub AreUndisturbed : SetupData → List Entry → Type 0
+AreUndisturbed s h =
+    (before after : List Entry) (e : Entry) (c k n : ℕ) → h ≡ before ++ e ∷ after
+    → list_any (λ x. is_by c k x && is_on_block s n x) before ≡ true → list_any (λ x. is_by c k x && is_on_block s n x) after ≡ true
+    → is_on_block s n e ≡ true → is_by c k e ≡ true
+
+-- after an entry of a call without an answer, no other call has an entry on its lock block
+abbrev pub AreAlone : SetupData → List (List Answer) → List Entry → Type 0
+AreAlone s answers h =
+    (before after : List Entry) (e : Entry) (c k n : ℕ) → h ≡ before ++ e ∷ after → answer_at answers c k ≡ None
+    → is_by c k e ≡ true → is_on_block s n e ≡ true → All (λ x. is_on_block s n x ≡ true → is_by c k x ≡ true) after
+
+-- ---- counts
+
+-- the generations that call k of caller c is answered are the counts of the history
+abbrev pub IsCounted : GeometryData → ℕ → ℕ → Task → Answer → List Entry → Type 0
+IsCounted g c k t (answer.Done told) h = AreDoneCounts g.setup.first (granule_bytes g.setup) c k (granule_of_task g t) told h
+IsCounted g c k t (answer.Worn z value) h = IsWornCount g.setup.first (granule_bytes g.setup) c k (granule_of_task g t) z value h
+IsCounted g c k t told h = Unit {0}
+
+-- a call without an answer that is refused with the GPI that it needs has a generation to report as worn
+abbrev pub AreWorn : GeometryData → List (List Task) → List (List Answer) → List Entry → Type 0
+AreWorn g tasks answers h =
+    (before after : List Entry) (c k granule : ℕ) (found : Gpi) (t : Task) → h ≡ before ++ entry.Refused c k granule found ∷ after
+    → task_at tasks c k ≡ Some t → answer_at answers c k ≡ None → needed t ≡ Some found
+    → (z : Size) × (value : ℕ) × IsCounted g c k t (answer.Worn z value) h
+
+-- ---- words
+
+-- the L1 words of all tables among the shared words
+abbrev pub table_part : GeometryData → List ℕ → List ℕ
+table_part g words = take (l1_words g) (drop (place_of g (Level1 0)) words)
+
+abbrev pub generation_word : GeometryData → List ℕ → Size → ℕ → ℕ
+generation_word g words y region = slice_index words (place_of g (Generation y region))
+
+-- ---- the whole
+
+-- Answers and words fit a history from a first map: it is legal, it has the entries of each call once and in
+-- its caller's order, and the words are those of its last map and its counts.
+pub record FitsHistory (g : GeometryData) (first : List Gpi) (tasks : List (List Task)) (answers : List (List Answer)) (words : List ℕ) (h : List Entry) : Type 0 where
+  pub many : length answers ≡ length tasks
+  pub size : length words ≡ word_count g
+  pub legal : IsLegalHistory (granule_bytes g.setup) tasks answers (start first) h
+  pub calls : TellsCalls (granule_bytes g.setup) tasks answers h
+  -- Inval and Unknown by their causes, and the generations of Done and Worn
+  pub causes : (c k : ℕ) (t : Task) (told : Answer) → task_at tasks c k ≡ Some t → answer_at answers c k ≡ Some told → HasCause g t told
+  pub counts : (c k : ℕ) (t : Task) (told : Answer) → task_at tasks c k ≡ Some t → answer_at answers c k ≡ Some told → IsCounted g c k t told h
+  pub worn : AreWorn g tasks answers h
+  -- transitions on one lock block don't mix
+  pub undisturbed : AreUndisturbed g.setup h
+  pub alone : AreAlone g.setup answers h
+  -- the tables mean the last map, and where the setup uses no contiguous entries their words are canonical
+  pub tables : TablesMean g.setup (l0_words g) (table_part g words) (map_at (state_after (start first) h).map)
+  pub canonical : g.setup.max ≡ most.Zero → AreCanonical g.setup (l0_words g) (table_part g words) (map_at (state_after (start first) h).map)
+  -- a generation is the count of its region, or one less while its lock is held
+  pub generations : (y : Size) (region : ℕ) → region < blocks_in_region y * g.setup.gigabytes
+      → (generation_word g words y region ≡ count_of g.setup.first (granule_bytes g.setup) y region h)
+      ⊎ ((generation_word g words y region + 1 ≡ count_of g.setup.first (granule_bytes g.setup) y region h)
+      × (lock_bit words (lock_number g.setup (region * size_bytes y)) ≡ 1))
+  -- where each call is answered no lock is held; duty words and lines aren't used yet
+  pub ended : ((c k : ℕ) (t : Task) → task_at tasks c k ≡ Some t → answer_at answers c k ≡ None → ⊥) → (n : ℕ) → n < 128 → lock_bit words n ≡ 0
+  pub duty : (cpu : ℕ) → cpu < g.cpus → slice_index words (place_of g (Duty cpu)) ≡ 0
+  pub lines : (i : ℕ) → i < l1_words g → slice_index words (place_of g (Line i)) ≡ 0

@@ -1,0 +1,56 @@
+-- A scenario's callers, its machine before the first act, and what its turns leave.
+use Rattle.std.specs.Prelude.{◌≡◌, ℕ, ◌<◌, ◌≤◌, List, [], ◌∷◌, length, map}
+use Rattle.gpt_descriptors.specs.Places.{GeometryData}
+use Rattle.scenario_text.specs.declared.scenario.Scenario.{Scenario}
+use Rattle.scenario_text.specs.declared.scenario.Script.{Script}
+use Rattle.scenario_text.specs.declared.scenario.Script.TheVariants as script
+use Rattle.scenario_text.specs.declared.scenario.Slot.{Slot}
+use Rattle.scenario_text.specs.declared.scenario.Slot.TheVariants as slot
+use Rattle.history.specs.declared.call.Answer.{Answer}
+use Rattle.history.specs.declared.outcome.Outcome.{Outcome}
+use Rattle.delegate_ops.specs.Agents.{fresh}
+use Rattle.core_machine.specs.declared.caller.Caller.{Caller}
+use Rattle.core_machine.specs.declared.caller.Caller.TheVariants as caller
+use Rattle.core_machine.specs.InnerCallers.{caller_answers}
+use Rattle.core_machine.specs.Scenarios.{task_of_ask, geometry_of, first_words, turns_in}
+use Rattle.core_machine.specs.Trace.{TraceEvent}
+use Rattle.core_machine.specs.InnerMachine.{MachineData, after_turns, trace_of}
+
+abbrev pub caller_of : GeometryData → Script → Caller
+caller_of g (script.Agent asks) = caller.Agent (fresh g (map task_of_ask asks))
+caller_of g (script.Cpu looks) = caller.Cpu (length looks)
+
+abbrev pub opening_of : Scenario → MachineData
+opening_of s = record {
+  geometry = geometry_of s;
+  callers = map (caller_of (geometry_of s)) s.scripts;
+  words = first_words s;
+}
+
+-- what the turns leave, and the trace that they make
+abbrev pub played : Scenario → MachineData
+played s = after_turns (opening_of s) (turns_in s)
+
+abbrev pub played_trace : Scenario → List TraceEvent
+played_trace s = trace_of (opening_of s) (turns_in s)
+
+abbrev pub outcome_of : MachineData → Outcome
+outcome_of m = record { geometry = m.geometry; answers = map caller_answers m.callers; words = m.words }
+
+-- a line of the schedule names one of n callers
+abbrev pub NamesCaller : ℕ → Slot → Type 0
+NamesCaller n (slot.Turn c turns) = c < n
+NamesCaller n (slot.Round turns times) = Unit {0}
+
+-- ---- answers of a scenario
+
+-- the number of calls of a script
+abbrev pub calls_in : Script → ℕ
+calls_in (script.Agent asks) = length asks
+calls_in (script.Cpu looks) = length looks
+
+-- a list of answers for each script, none longer than its calls
+abbrev pub AreAnswersOf : List Script → List (List Answer) → Type 0
+AreAnswersOf [] [] = Unit {0}
+AreAnswersOf (s ∷ scripts) (own ∷ answers) = (length own ≤ calls_in s) × AreAnswersOf scripts answers
+AreAnswersOf scripts answers = ⊥

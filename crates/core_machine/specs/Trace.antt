@@ -1,0 +1,100 @@
+-- The trace of a schedule: which caller makes which act, what it answers, and which entries it makes.
+use Rattle.std.specs.Prelude.{◌≡◌, ◌≢◌, ◌⊎◌, ℕ, ◌/◌, ◌%◌, ◌^◌, ◌<◌, Bool, false, ◌&&◌, List, [], ◌∷◌, length, map, slice_get, Option, Some, None, ◌==◌}
+use Rattle.std.specs.List.{All, filter, flat_map}
+use Rattle.std.specs.Int.{bit_not, w64}
+use Rattle.std.specs.Int.Bits.{bit_and}
+use Rattle.gpt_descriptors.specs.Places.{GeometryData}
+use Rattle.shared_words.specs.declared.act.Act.{Act}
+use Rattle.shared_words.specs.declared.act.Act.TheVariants as act
+use Rattle.shared_words.specs.Acts.{place_in, answer_of, after_act}
+use Rattle.scenario_text.specs.declared.scenario.Script.{Script}
+use Rattle.scenario_text.specs.declared.scenario.Script.TheVariants as script
+use Rattle.history.specs.declared.call.Answer.{Answer}
+use Rattle.history.specs.declared.entry.Entry.{Entry}
+use Rattle.delegate_ops.specs.Script.{CallEvent, Follows, HasStopped}
+use Rattle.core_machine.specs.Scenarios.{task_of_ask, tasks_of}
+
+-- an event of a trace: a caller, and its act with its answer and its entries
+pub record TraceEvent : Type 0 where
+  pub caller : ℕ
+  pub event : CallEvent
+
+-- the events of one caller
+abbrev pub events_of : ℕ → List TraceEvent → List CallEvent
+events_of c trace = map (λ e. e.event) (filter (λ e. e.caller == c) trace)
+
+-- the history of a trace: the entries of its events, in their order
+abbrev pub history_of : List TraceEvent → List Entry
+history_of trace = flat_map (λ e. e.event.made) trace
+
+-- ---- words
+
+-- the shared words after a trace
+abbrev pub words_after : List ℕ → List TraceEvent → List ℕ
+words_after words [] = words
+words_after words (e ∷ trace) = words_after (after_act e.event.act words) trace
+
+-- each act is made on one of the shared words, and answers what the acts before it left
+abbrev pub AreAnswered : List ℕ → List TraceEvent → Type 0
+AreAnswered words [] = Unit {0}
+AreAnswered words (e ∷ trace) =
+    (place_in e.event.act < length words) × (e.event.old ≡ answer_of e.event.act words) × AreAnswered (after_act e.event.act words) trace
+
+-- ---- scripts
+
+-- a caller's events follow its script; a processor makes no act yet, and has no answers
+abbrev pub FollowsScript : GeometryData → ℕ → Script → List Answer → List CallEvent → Type 0
+FollowsScript g c (script.Agent asks) answers events = Follows g c (map task_of_ask asks) answers events
+FollowsScript g c (script.Cpu looks) answers events = (answers ≡ []) × (events ≡ [])
+
+-- a caller makes no further act: each of its calls is answered, or it has stopped
+abbrev pub HasEnded : GeometryData → ℕ → Option Script → List Answer → List CallEvent → Type 0
+HasEnded g c (Some (script.Agent asks)) answers events =
+    (length answers ≡ length asks) ⊎ HasStopped g c (map task_of_ask asks) answers events
+HasEnded g c o answers events = Unit {0}
+
+-- the answers of a caller
+abbrev pub answers_by : List (List Answer) → Option (List Answer) → List Answer
+answers_by answers None = []
+answers_by answers (Some own) = own
+
+-- ---- turns
+
+-- The events are those of the turns, in their order: each turn makes an event of its caller, or its caller
+-- has ended and makes no further event.
+abbrev pub TakesTurns : (ℕ → Type 0) → List ℕ → List ℕ → Type 0
+TakesTurns ended [] callers = callers ≡ []
+TakesTurns ended (c ∷ turns) callers =
+    ((rest : List ℕ) × (callers ≡ c ∷ rest) × TakesTurns ended turns rest)
+    ⊎ (ended c × All (λ d. d ≢ c) callers × TakesTurns ended turns callers)
+
+-- ---- locks
+
+-- the act takes lock n, which was free: it sets bit n % 64 of word n / 64
+abbrev pub takes_by : ℕ → ℕ → Act → Bool
+takes_by n old (act.Or place value) = (place == n / 64) && ((value == 2 ^ (n % 64)) && (bit_and old value == 0))
+takes_by n old a = false
+
+abbrev pub takes : ℕ → TraceEvent → Bool
+takes n e = takes_by n e.event.old e.event.act
+
+-- the act releases lock n: it clears this bit
+abbrev pub releases_by : ℕ → Act → Bool
+releases_by n (act.And place value) = (place == n / 64) && (value == bit_not w64 (2 ^ (n % 64)))
+releases_by n a = false
+
+abbrev pub releases : ℕ → TraceEvent → Bool
+releases n e = releases_by n e.event.act
+
+-- ---- the whole
+
+-- A trace of these turns, from words before the first act to these answers and words: its callers are those
+-- of the turns, less the turns of callers that have ended; each act answers what stands in its word; and
+-- each caller follows its script.
+pub record IsTrace (g : GeometryData) (scripts : List Script) (before : List ℕ) (turns : List ℕ) (trace : List TraceEvent) (answers : List (List Answer)) (words : List ℕ) : Type 0 where
+  pub callers : All (λ e. e.caller < length scripts) trace
+  pub turned : TakesTurns (λ c. HasEnded g c (slice_get scripts c) (answers_by answers (slice_get answers c)) (events_of c trace)) turns (map (λ e. e.caller) trace)
+  pub answered : AreAnswered before trace
+  pub left : words ≡ words_after before trace
+  pub follows : (c : ℕ) (s : Script) (own : List Answer) → slice_get scripts c ≡ Some s → slice_get answers c ≡ Some own
+      → FollowsScript g c s own (events_of c trace)
