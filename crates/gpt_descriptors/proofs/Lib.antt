@@ -1,4 +1,7 @@
 pub mod EntryLemmas
+pub mod FieldLemmas
+pub mod FieldEntryLemmas
+pub mod PlaneLemmas
 pub mod SizeLemmas
 pub mod CanonicalLemmas
 pub mod MeaningLemmas

@@ -13,7 +13,7 @@ is_table_entry None = false
 abbrev pub is_table : ℕ → Bool
 is_table word = is_table_entry (l0_entry word)
 
--- the k-th table entry, counted from 0, names the k-th table behind the base
+-- the k-th table entry, counted from 0, names the k-th table from the base on
 abbrev pub is_entry_good : SetupData → ℕ → Option L0Entry → Bool
 is_entry_good s k None = false
 is_entry_good s k (Some (l0.Block gpi)) = true
