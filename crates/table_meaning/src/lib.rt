@@ -1,0 +1,6 @@
+//! What granule protection tables mean, and that canonical tables mean their map.
+#![tactic(auto)]
+
+mod law;
+
+pub use law::canonical_tables_mean_their_map;
