@@ -1,5 +1,6 @@
 -- Canonical L1 words: given a map from granule to GPI, each word is contiguous of the largest size
--- that is permitted and whose aligned block has one GPI, else it is the granules word of the map.
+-- that is permitted and whose aligned block has one GPI, else it is the granules word of the map (DDI 0487,
+-- GPT level 1 descriptors; TF-A gpt_rme fills and fuses tables up to RME_GPT_MAX_BLOCK).
 -- A word is named by its number in the protected space: word w has granules 16 w to 16 w + 15.
 use Rattle.std.specs.Prelude.{◌≡◌, ℕ, ◌*◌, ◌/◌, Bool, true, ◌&&◌, not, [], ◌∷◌, Option, Some, None, ◌==◌}
 use Rattle.std.specs.List.{find, list_all, range_with_len}

@@ -1,4 +1,5 @@
--- The level 0 table: one entry for each gigabyte of the protected space.
+-- The level 0 table: one entry for each gigabyte of the protected space (DDI 0487, GPT level 0 descriptors; a
+-- table is aligned to its size, which follows from PGS and L0GPTSZ).
 use Rattle.std.specs.Prelude.{ℕ, ◌+◌, ◌*◌, ◌/◌, ◌%◌, ◌^◌, Bool, true, false, ◌&&◌, List, [], ◌∷◌, length, take, count_by, slice_index, Option, Some, None, ◌==◌, nat_lt, nat_le, if◌then◌else◌}
 use Rattle.gpt_descriptors.specs.declared.entry.L0Entry.{L0Entry}
 use Rattle.gpt_descriptors.specs.declared.entry.L0Entry.TheVariants as l0
