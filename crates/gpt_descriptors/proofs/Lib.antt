@@ -6,4 +6,6 @@ pub mod SizeLemmas
 pub mod CanonicalLemmas
 pub mod MeaningLemmas
 pub mod PackedLemmas
+pub mod BlockLemmas
+pub mod AroundLemmas
 pub mod PlaceLemmas

@@ -45,6 +45,10 @@ canonical_with m w None = packed m (16 * w) 16
 unfoldable pub canonical_word : SetupData → (ℕ → Gpi) → Option ℕ → ℕ → ℕ
 canonical_word s m apart w = canonical_with m w (largest_block s m apart w)
 
+-- every granule of block number b of a size has this GPI
+abbrev pub BlockIs : SetupData → (ℕ → Gpi) → Size → ℕ → Gpi → Type 0
+BlockIs s m size b gpi = (g : ℕ) → g / 16 / words_of s size ≡ b → m g ≡ gpi
+
 -- every granule of the aligned block of a contiguous entry at w has the entry's GPI
 abbrev pub CoversEqual : SetupData → (ℕ → Gpi) → ℕ → L1Entry → Type 0
 CoversEqual s m w (l1.Granules word) = Unit {0}
