@@ -1,4 +1,4 @@
--- The GPI encodings and what they permit (DDI 0487, granule protection checks).
+-- The encodings of the GPI field and what they permit (DDI 0487, granule protection checks).
 use Rattle.std.specs.Prelude.{ℕ, Bool, true, false, Option, Some, None, ◌==◌, if◌then◌else◌}
 use Rattle.gpi_values.specs.declared.gpi.Gpi.{Gpi}
 use Rattle.gpi_values.specs.declared.gpi.Gpi.TheVariants as gpi
@@ -7,7 +7,8 @@ use Rattle.gpi_values.specs.declared.gpi.Space.TheVariants as space
 use Rattle.gpi_values.specs.declared.security.Source.{Source}
 use Rattle.gpi_values.specs.declared.security.Source.TheVariants as source
 
--- the four-bit value of a GPI
+-- the four-bit value of a GPI: GPT_GPI_NO_ACCESS, GPT_GPI_SECURE, GPT_GPI_NS, GPT_GPI_ROOT,
+-- GPT_GPI_REALM and GPT_GPI_ANY of TF-A's gpt_rme
 abbrev pub value_of : Gpi → ℕ
 value_of gpi.NoAccess = 0
 value_of gpi.Secure = 8

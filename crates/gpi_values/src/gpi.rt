@@ -1,14 +1,21 @@
 ghost use Rattle.std.specs.Prelude.{◌≡◌, ◌≢◌, ◌⊎◌, ◌↔◌, IsTrue, IfSome, IfNone};
 ghost use Rattle.gpi_values.specs.Values.{value_of, gpi_with, gpi_of_space, permits_of};
 
-/// Granule protection information: which physical address spaces may access a granule.
+/// Granule protection information: which physical address spaces may access a granule (DDI 0487,
+/// encodings of the GPI field).
 #[derive(Clone, Copy, Debug, PartialEq, Eq)]
 pub enum Gpi {
+    /// 0b0000, no accesses permitted: `GPT_GPI_NO_ACCESS`.
     NoAccess,
+    /// 0b1000, accesses to Secure physical address space only: `GPT_GPI_SECURE`.
     Secure,
+    /// 0b1001, accesses to Non-secure physical address space only: `GPT_GPI_NS`.
     NonSecure,
+    /// 0b1010, accesses to Root physical address space only: `GPT_GPI_ROOT`.
     Root,
+    /// 0b1011, accesses to Realm physical address space only: `GPT_GPI_REALM`.
     Realm,
+    /// 0b1111, all accesses permitted: `GPT_GPI_ANY`.
     Any,
 }
 
@@ -21,7 +28,7 @@ pub enum Space {
     Realm,
 }
 
-/// The four-bit value of a GPI in a descriptor (DDI 0487, GPI encodings).
+/// The four-bit value of a GPI in a descriptor, 0 to 15 (DDI 0487, encodings of the GPI field).
 pub fn nibble(gpi: Gpi) -> u64
     ensures { result ≡ value_of gpi }
 {
@@ -35,7 +42,8 @@ pub fn nibble(gpi: Gpi) -> u64
     }
 }
 
-/// The GPI with this value, or `None` exactly where no accepted GPI has it.
+/// The GPI with this value, or `None` exactly where no accepted GPI has it (DDI 0487, encodings of the
+/// GPI field; the values that it reserves or gives to later extensions are refused).
 pub fn gpi_of(value: u64) -> Option<Gpi>
     ensures found { IfSome result (λ gpi. value ≡ value_of gpi) }
     ensures none { IfNone result ((gpi : Gpi) → value ≢ value_of gpi) }

@@ -4,7 +4,7 @@ ghost use Rattle.gpi_values.specs.Names.{name_of, space_name_of, source_name_of,
 use crate::gpi::{Gpi, Space};
 use crate::security::{Source, World};
 
-/// The name of a GPI in texts.
+/// The name of a GPI in texts: `none`, `secure`, `nonsecure`, `root`, `realm` or `any`.
 pub fn gpi_name(gpi: Gpi) -> &'static str
     ensures { result.now ≡ name_of gpi }
 {
@@ -27,6 +27,27 @@ pub fn space_name(space: Space) -> &'static str
         Space::NonSecure => "nonsecure",
         Space::Root => "root",
         Space::Realm => "realm",
+    }
+}
+
+/// The name of a source in texts: `realm` or `secure`.
+pub fn source_name(source: Source) -> &'static str
+    ensures { result.now ≡ source_name_of source }
+{
+    match source {
+        Source::Realm => "realm",
+        Source::Secure => "secure",
+    }
+}
+
+/// The name of the security state that makes a monitor call: `realm`, `secure` or `nonsecure`.
+pub fn world_name(world: World) -> &'static str
+    ensures { result.now ≡ world_name_of world }
+{
+    match world {
+        World::Realm => "realm",
+        World::Secure => "secure",
+        World::NonSecure => "nonsecure",
     }
 }
 

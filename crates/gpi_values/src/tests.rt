@@ -3,7 +3,7 @@ use std::test::Fail;
 
 #[test]
 fn values_are_those_of_the_standard(rt: HostRuntime) {
-    // DDI 0487, GPI encodings: every value from 0 to 16, of which six are accepted.
+    // DDI 0487, encodings of the GPI field: every value from 0 to 16, of which six are accepted.
     let table = [
         (0, Some(Gpi::NoAccess)),
         (1, None),
@@ -98,6 +98,12 @@ fn names_are_read_and_written_alike(rt: HostRuntime) {
         }
         if let Some(space) = space {
             assert_eq!(rt; space_name(space).as_bytes(), text);
+        }
+        if let Some(source) = source {
+            assert_eq!(rt; source_name(source).as_bytes(), text);
+        }
+        if let Some(world) = world {
+            assert_eq!(rt; world_name(world).as_bytes(), text);
         }
     }
 }

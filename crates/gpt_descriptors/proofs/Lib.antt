@@ -1,6 +1,11 @@
 pub mod EntryLemmas
+pub mod FieldLemmas
+pub mod FieldEntryLemmas
+pub mod PlaneLemmas
 pub mod SizeLemmas
 pub mod CanonicalLemmas
 pub mod MeaningLemmas
 pub mod PackedLemmas
+pub mod BlockLemmas
+pub mod AroundLemmas
 pub mod PlaceLemmas

@@ -1,6 +1,6 @@
 -- What canonical words mean, and that contiguous ones cover equal granules.
-use Rattle.std.proofs.Common.{◌≡◌, ℕ, zero, suc, ◌+◌, ◌*◌, ◌/◌, ◌%◌, ◌^◌, ◌≤◌, ◌<◌, true, eqb, Option, Some, None, refl, sym, ap, ◌∙◌, subst, arith, inl, inr, mul_comm}
-use Rattle.std.proofs.Math.Nat.{div-div-eq-div-mul, mod-add-div, mod-lt}
+use Rattle.std.proofs.Common.{◌≡◌, ℕ, ◌+◌, ◌*◌, ◌/◌, ◌%◌, ◌≤◌, ◌<◌, true, eqb, Option, Some, None, refl, sym, ap, ◌∙◌, subst, arith, inl, inr, mul_comm}
+use Rattle.std.proofs.Math.Nat.{mod-add-div, mod-lt}
 use Rattle.std.proofs.lemmas.Bool.{cases_Bool, and_parts, eq-eqb}
 use Rattle.gpi_values.specs.declared.gpi.Gpi.{Gpi}
 use Rattle.gpi_values.specs.Values.{value_of, gpi_with}
@@ -13,7 +13,7 @@ use Rattle.gpt_descriptors.specs.Sizes.{SetupData, words_of}
 use Rattle.gpt_descriptors.specs.Entries.{field, size_code, size_with, l1_word, l1_entry, word_gpi, packed}
 use Rattle.gpt_descriptors.specs.Canonical.{is_one_block, is_block_around, largest_block, canonical_with, canonical_word, CoversEqual}
 use Rattle.gpt_descriptors.proofs.EntryLemmas.{granules_entry}
-use Rattle.gpt_descriptors.proofs.PackedLemmas.{packed-suc, four_more}
+use Rattle.gpt_descriptors.proofs.PackedLemmas.{packed_field}
 use Rattle.gpt_descriptors.proofs.CanonicalLemmas.{one_gpi_at, words_some}
 
 -- ---- a contiguous entry is read as itself
@@ -31,16 +31,6 @@ contiguous_again z g =
     rw (low, gpi, code, gpi_with-value_of g, size_with-size_code z) refl
 
 -- ---- a word of granules is read as itself
-
-packed_field : (m : ℕ → Gpi) (first n i : ℕ) → i < n → field (packed m first n) i ≡ value_of (m (first + i))
-packed_field m first zero i lt = absurd (omega arith)
-packed_field m first (suc n) zero lt =
-    rw packed-suc (let same : first + 0 ≡ first = omega arith in rw same (omega (arith, value_low (m first))))
-packed_field m first (suc n) (suc i) lt =
-    let more : 2 ^ (4 * suc i) ≡ 16 * 2 ^ (4 * i) = four_more i in
-    let front : (value_of (m first) + 16 * packed m (first + 1) n) / 16 ≡ packed m (first + 1) n = omega (arith, value_low (m first)) in
-    let place : first + suc i ≡ first + 1 + i = omega arith in
-    rw (packed-suc, more, ← div-div-eq-div-mul, front, place) (packed_field m (first + 1) n i (omega arith))
 
 packed_known : (m : ℕ → Gpi) (first i : ℕ) → i < 16 → gpi_with (field (packed m first 16) i) ≡ Some (m (first + i))
 packed_known m first i lt = ap gpi_with (packed_field m first 16 i lt) ∙ gpi_with-value_of (m (first + i))

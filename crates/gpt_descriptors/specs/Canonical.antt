@@ -1,5 +1,6 @@
 -- Canonical L1 words: given a map from granule to GPI, each word is contiguous of the largest size
--- that is permitted and whose aligned block has one GPI, else it is the granules word of the map.
+-- that is permitted and whose aligned block has one GPI, else it is the granules word of the map (DDI 0487,
+-- GPT level 1 descriptors; TF-A gpt_rme fills and fuses tables up to RME_GPT_MAX_BLOCK).
 -- A word is named by its number in the protected space: word w has granules 16 w to 16 w + 15.
 use Rattle.std.specs.Prelude.{◌≡◌, ℕ, ◌*◌, ◌/◌, Bool, true, ◌&&◌, not, [], ◌∷◌, Option, Some, None, ◌==◌}
 use Rattle.std.specs.List.{find, list_all, range_with_len}
@@ -43,6 +44,10 @@ canonical_with m w None = packed m (16 * w) 16
 -- The canonical word at w. With a granule that stands apart only the blocks that don't hold it count.
 unfoldable pub canonical_word : SetupData → (ℕ → Gpi) → Option ℕ → ℕ → ℕ
 canonical_word s m apart w = canonical_with m w (largest_block s m apart w)
+
+-- every granule of block number b of a size has this GPI
+abbrev pub BlockIs : SetupData → (ℕ → Gpi) → Size → ℕ → Gpi → Type 0
+BlockIs s m size b gpi = (g : ℕ) → g / 16 / words_of s size ≡ b → m g ≡ gpi
 
 -- every granule of the aligned block of a contiguous entry at w has the entry's GPI
 abbrev pub CoversEqual : SetupData → (ℕ → Gpi) → ℕ → L1Entry → Type 0

@@ -1,4 +1,5 @@
--- The level 0 table: one entry for each gigabyte of the protected space.
+-- The level 0 table: one entry for each gigabyte of the protected space (DDI 0487, GPT level 0 descriptors; a
+-- table is aligned to its size, which follows from PGS and L0GPTSZ).
 use Rattle.std.specs.Prelude.{ℕ, ◌+◌, ◌*◌, ◌/◌, ◌%◌, ◌^◌, Bool, true, false, ◌&&◌, List, [], ◌∷◌, length, take, count_by, slice_index, Option, Some, None, ◌==◌, nat_lt, nat_le, if◌then◌else◌}
 use Rattle.gpt_descriptors.specs.declared.entry.L0Entry.{L0Entry}
 use Rattle.gpt_descriptors.specs.declared.entry.L0Entry.TheVariants as l0
@@ -13,7 +14,7 @@ is_table_entry None = false
 abbrev pub is_table : ℕ → Bool
 is_table word = is_table_entry (l0_entry word)
 
--- the k-th table entry, counted from 0, names the k-th table behind the base
+-- the k-th table entry, counted from 0, names the k-th table from the base on
 abbrev pub is_entry_good : SetupData → ℕ → Option L0Entry → Bool
 is_entry_good s k None = false
 is_entry_good s k (Some (l0.Block gpi)) = true

@@ -5,18 +5,21 @@ ghost use Rattle.gpt_descriptors.specs.Sizes.{reach_with};
 use crate::size::{Reach, Size};
 use gpi_values::{Gpi, gpi_of, nibble};
 
-/// An entry of the level 0 table: a block of 1 GB with one GPI, or the byte address of an L1 table.
+/// An entry of the level 0 table (DDI 0487, GPT level 0 descriptors).
 #[derive(Clone, Copy, Debug, PartialEq, Eq)]
 pub enum L0Entry {
+    /// A block of 1 GB of one GPI: TF-A `GPT_L0_TYPE_BLK_DESC`.
     Block(Gpi),
+    /// The byte address of an L1 table: TF-A `GPT_L0_TYPE_TBL_DESC`.
     Table(u64),
 }
 
-/// An entry of a level 1 table: the sixteen GPI fields of a granules word, the first granule lowest,
-/// or a contiguous block of one GPI.
+/// An entry of a level 1 table (DDI 0487, GPT level 1 descriptors).
 #[derive(Clone, Copy, Debug, PartialEq, Eq)]
 pub enum L1Entry {
+    /// The sixteen GPI fields of a granules descriptor, the first granule lowest.
     Granules(u64),
+    /// A contiguous block of one GPI: TF-A `GPT_L1_TYPE_CONT_DESC`.
     Contig(Size, Gpi),
 }
 
@@ -62,16 +65,18 @@ pub fn encode_l0(entry: L0Entry) -> u64
     }
 }
 
-#[tactic(auto, using(crate::proofs::EntryLemmas::knows_not, crate::proofs::EntryLemmas::knows_from))]
+/// The lowest bit of each of the sixteen fields of a word.
+const LOWEST_BITS: u64 = 0x1111_1111_1111_1111;
+
+/// Whether all sixteen fields are GPIs, by the bits of all fields at once. No GPI are 0b0001 to 0b0111,
+/// which have a lower bit without bit 3, and 0b1100 to 0b1110, which have bit 2 without both below it.
 fn knows_all_fields(word: u64) -> bool
     ensures { result ≡ knows_all word }
 {
-    for place in 0..16u32 {
-        if gpi_of((word >> (4 * place)) % 16).is_none() {
-            return false;
-        }
-    }
-    true
+    let (one, two, three) = (word >> 1, word >> 2, word >> 3);
+    let without_top = (word | one | two) & !three;
+    let without_low = two & !(word & one);
+    (without_top | without_low) & LOWEST_BITS == 0
 }
 
 fn size_of_code(code: u64) -> Option<Size>

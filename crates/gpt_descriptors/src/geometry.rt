@@ -1,5 +1,5 @@
 ghost use Rattle.std.specs.Prelude.{◌≡◌, ◌+◌, ◌-◌, ◌*◌, ◌/◌, ◌<◌, ◌≤◌, ◌++◌, ◌↔◌, true, false, IsTrue, IsSome, IsNone, IfSome, IfNone, nat_lt, length, replicate};
-ghost use Rattle.gpt_descriptors.specs.Sizes.{space_bytes, size_bytes};
+ghost use Rattle.gpt_descriptors.specs.Sizes.{space_bytes, size_bytes, granule_number, place_in_word};
 ghost use Rattle.gpt_descriptors.specs.Entries.{l0_entry};
 ghost use Rattle.gpt_descriptors.specs.Level0.{is_l0_good, is_table, table_count};
 ghost use Rattle.gpt_descriptors.specs.Places.{IsGeometry, IsWordName, Generation, Duty, Level1, Line, place_of, word_count, l0_words, l1_words, gen_place_of, l1_index_of, l1_place_of, line_place_of, l0_word_of, block_gpi_of};
@@ -96,19 +96,57 @@ impl Geometry {
         self.l1_tables() * self.setup.table_words()
     }
 
-    /// How many shared words there are.
+    /// The number of shared words.
     pub fn words(&self) -> usize
         ensures { result ≡ word_count self.now }
     {
         (2 + 546 * self.setup.gigabytes() + self.cpus() as u64 + 2 * self.l1_words()) as usize
     }
 
-    /// The place of the first duty word, behind the locks and the generations.
+    /// The place of the first generation of a size, after the locks and the generations of the smaller
+    /// sizes.
+    pub fn first_generation(&self, size: Size) -> usize
+        ensures place { result ≡ place_of self.now (Generation size 0) }
+        ensures range { result ≤ 40000 }
+    {
+        let gigabytes = self.setup.gigabytes();
+        let start = match size {
+            Size::Two => 2,
+            Size::ThirtyTwo => 2 + 512 * gigabytes,
+            Size::FiveTwelve => 2 + 544 * gigabytes,
+        };
+        start as usize
+    }
+
+    /// The place of the first duty word, after the locks and the generations.
     fn duty_start(&self) -> u64
         ensures value { result ≡ 2 + 546 * self.now.setup.gigabytes }
         ensures range { result ≤ 40000 }
     {
         2 + 546 * self.setup.gigabytes()
+    }
+
+    /// The place of the first L1 word, after the duty words.
+    pub fn first_l1_word(&self) -> usize
+        ensures place { result ≡ place_of self.now (Level1 0) }
+        ensures range { result ≤ 50000 }
+    {
+        (self.duty_start() + self.cpus() as u64) as usize
+    }
+
+    /// The number of the granule of an address.
+    pub fn granule(&self, pa: u64) -> u64
+        ensures { result ≡ granule_number self.now.setup pa }
+    {
+        pa / self.setup.granule_bytes()
+    }
+
+    /// The place of the granule of an address in its L1 word, 0 to 15.
+    pub fn place_in_word(&self, pa: u64) -> u64
+        ensures place { result ≡ place_in_word self.now.setup pa }
+        ensures range { result < 16 }
+    {
+        self.granule(pa) % 16
     }
 
     /// Whether this address is in the protected space.
@@ -124,13 +162,7 @@ impl Geometry {
         ensures place { result ≡ gen_place_of self.now size pa }
         ensures named { IsWordName self.now (Generation size (pa / size_bytes size)) }
     {
-        let gigabytes = self.setup.gigabytes();
-        let start = match size {
-            Size::Two => 2,
-            Size::ThirtyTwo => 2 + 512 * gigabytes,
-            Size::FiveTwelve => 2 + 544 * gigabytes,
-        };
-        (start + pa / size.bytes()) as usize
+        self.first_generation(size) + (pa / size.bytes()) as usize
     }
 
     /// The place of the duty word of a processor.
@@ -162,9 +194,9 @@ impl Geometry {
         }
     }
 
-    /// Where the L1 word of an address stands among all L1 words, by the address of its table: the
-    /// tables stand in a row from the base on.
-    fn index_behind(&self, table: u64, pa: u64) -> u64
+    /// The number of the L1 word of an address among all L1 words, by the address of its table: the
+    /// tables follow one another from the base on.
+    fn index_in_table(&self, table: u64, pa: u64) -> u64
         requires inside { pa < space_bytes self.now.setup }
         requires table { l0_entry (l0_word_of self.now pa) ≡ Some (L0Entry.Table table) }
         ensures value { Some result ≡ l1_index_of self.now pa }
@@ -176,7 +208,7 @@ impl Geometry {
         (table - setup.base()) / 8 + word % setup.table_words()
     }
 
-    /// Where the L1 word of an address stands among all L1 words.
+    /// The number of the L1 word of an address among all L1 words.
     fn l1_index(&self, pa: u64) -> Option<u64>
         requires { pa < space_bytes self.now.setup }
         ensures value { result ≡ l1_index_of self.now pa }
@@ -185,7 +217,7 @@ impl Geometry {
         ensures table { IsSome result ↔ IsTrue (is_table (l0_word_of self.now pa)) }
     {
         match self.table_of(pa) {
-            Some(table) => Some(self.index_behind(table, pa)),
+            Some(table) => Some(self.index_in_table(table, pa)),
             None => None,
         }
     }
@@ -197,9 +229,8 @@ impl Geometry {
         ensures named { IfSome (l1_index_of self.now pa) (λ i. IsWordName self.now (Level1 i)) }
         ensures table { IsSome result ↔ IsTrue (is_table (l0_word_of self.now pa)) }
     {
-        let start = self.duty_start() + self.cpus() as u64;
         match self.l1_index(pa) {
-            Some(index) => Some((start + index) as usize),
+            Some(index) => Some(self.first_l1_word() + index as usize),
             None => None,
         }
     }
@@ -211,9 +242,9 @@ impl Geometry {
         ensures named { IfSome (l1_index_of self.now pa) (λ i. IsWordName self.now (Line i)) }
         ensures table { IsSome result ↔ IsTrue (is_table (l0_word_of self.now pa)) }
     {
-        let start = self.duty_start() + self.cpus() as u64 + self.l1_words();
+        let start = self.first_l1_word() + self.l1_words() as usize;
         match self.l1_index(pa) {
-            Some(index) => Some((start + index) as usize),
+            Some(index) => Some(start + index as usize),
             None => None,
         }
     }

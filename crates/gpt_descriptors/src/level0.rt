@@ -5,7 +5,7 @@ ghost use Rattle.gpt_descriptors.specs.Entries.{l0_entry};
 use crate::entry::{L0Entry, decode_l0};
 use crate::setting::Setup;
 
-/// Whether this L0 word may stand behind `k` table entries.
+/// Whether this L0 word may stand after `k` table entries.
 fn entry_good(setup: &Setup, k: u64, word: u64) -> bool
     requires { k ≤ 64 }
     ensures { result ≡ is_entry_good setup.now k (l0_entry word) }
@@ -17,7 +17,7 @@ fn entry_good(setup: &Setup, k: u64, word: u64) -> bool
     }
 }
 
-/// Whether a table at this address may be the one that stands behind `k` others.
+/// Whether a table at this address may be the one that stands after `k` others.
 fn table_good(setup: &Setup, k: u64, address: u64) -> bool
     requires { k ≤ 64 }
     ensures { result ≡ is_entry_good setup.now k (Some (L0Entry.Table address)) }
@@ -45,7 +45,7 @@ pub fn count_tables(l0: &[u64]) -> usize
 }
 
 /// Whether these are the L0 words of a protected space with this setup: there are `gigabytes` of
-/// them, each is a descriptor, the k-th table entry counted from 0 names the k-th table behind the
+/// them, each is a descriptor, the k-th table entry counted from 0 names the k-th table from the
 /// base, there are at most `tables` of them, and each table is aligned to its size and ends at or
 /// below 2^52.
 pub fn l0_good(setup: &Setup, l0: &[u64]) -> bool

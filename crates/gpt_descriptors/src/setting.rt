@@ -1,16 +1,35 @@
-ghost use Rattle.std.specs.Prelude.{◌≡◌, ◌*◌, ◌<◌, ◌≤◌, ◌^◌, ◌↔◌, IsSome, IfSome};
-ghost use Rattle.gpt_descriptors.specs.Sizes.{small_granule};
+ghost use Rattle.std.specs.Prelude.{◌≡◌, ◌*◌, ◌<◌, ◌≤◌, ◌^◌, ◌↔◌, IsTrue, IsSome, IfSome};
+ghost use Rattle.gpt_descriptors.specs.Sizes.{small_granule, IsSpaceSize, IsLockBlocks};
 
-use crate::size::{MaxBlock, Size};
+use crate::size::{GEN_LAST, MaxBlock, Size};
 use std::marker::Model;
 
-/// The last value that a generation may reach.
-pub const GEN_LAST: u64 = 9223372036854775807;
-
-/// Bytes of what one L0 entry stands for: 1 GB.
+/// Bytes of what one L0 entry stands for: 1 GB, the field L0GPTSZ of GPCCR_EL3 at 30 bits.
 pub const REGION_BYTES: u64 = 1 << 30;
 
-/// Bytes of a granule of 4 KB, the one size of this profile.
+/// The most walks that a processor may keep.
+pub const MOST_WALKS: u64 = 64;
+
+/// The most L1 tables that a setup may have.
+pub const MOST_TABLES: u64 = 16;
+
+/// Whether the protected space may have these gigabytes: 4 or 64 (two values of the field PPS of
+/// GPCCR_EL3).
+pub fn is_space_size(gigabytes: u64) -> bool
+    ensures { IsTrue result ↔ IsSpaceSize gigabytes }
+{
+    matches!(gigabytes, 4 | 64)
+}
+
+/// Whether one lock bit may cover this number of blocks of 512 MB: 0 for one lock over all, 1, 2, 4 or
+/// 8 (TF-A `RME_GPT_BITLOCK_BLOCK`).
+pub fn is_lock_blocks(blocks: u64) -> bool
+    ensures { IsTrue result ↔ IsLockBlocks blocks }
+{
+    matches!(blocks, 0 | 1 | 2 | 4 | 8)
+}
+
+/// Bytes of a granule of 4 KB, the one value of the field PGS of GPCCR_EL3 in this profile.
 pub fn small_granule() -> u64
     ensures value { result ≡ small_granule }
     ensures range { (4096 ≤ result) × (result ≤ 65536) }
@@ -71,12 +90,13 @@ impl Setup {
 
     /// A setup, or `None` exactly where a field is out of range.
     ///
-    /// - `gigabytes`: the protected space, 4 or 64 GB.
-    /// - `max`: the largest contiguous size that is used.
-    /// - `lock_blocks`: blocks of 512 MB that one lock bit covers: 1, 2, 4 or 8, or 0 for one lock.
+    /// - `gigabytes`: the protected space (PPS), 4 or 64 GB.
+    /// - `max`: the largest contiguous size that is used (TF-A `RME_GPT_MAX_BLOCK`).
+    /// - `lock_blocks`: blocks of 512 MB that one lock bit covers (TF-A `RME_GPT_BITLOCK_BLOCK`): 1, 2,
+    ///   4 or 8, or 0 for one lock.
     /// - `first`: the value of every generation at the start, at most `GEN_LAST`.
-    /// - `ring`: walks that a processor keeps, 1 to 64.
-    /// - `tables`: L1 tables that there is memory for, at most 16.
+    /// - `ring`: walks that a processor keeps, 1 to `MOST_WALKS`.
+    /// - `tables`: L1 tables that there is memory for, at most `MOST_TABLES`.
     /// - `base`: the address of the first L1 table, any.
     pub fn new(
         gigabytes: u64,
@@ -106,12 +126,12 @@ impl Setup {
           base = base;
         }) }
     {
-        let good = (gigabytes == 4 || gigabytes == 64)
-            && matches!(lock_blocks, 0 | 1 | 2 | 4 | 8)
+        let good = is_space_size(gigabytes)
+            && is_lock_blocks(lock_blocks)
             && first <= GEN_LAST
             && 1 <= ring
-            && ring <= 64
-            && tables <= 16;
+            && ring <= MOST_WALKS
+            && tables <= MOST_TABLES;
         if !good {
             return None;
         }

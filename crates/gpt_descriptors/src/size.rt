@@ -1,7 +1,11 @@
 ghost use Rattle.std.specs.Prelude.{◌≡◌};
-ghost use Rattle.gpt_descriptors.specs.Sizes.{size_bytes, is_permitted, tag_size_of};
+ghost use Rattle.gpt_descriptors.specs.Sizes.{size_bytes, is_permitted, tag_size_of, is_worn, generation_in, with_generation};
 
-/// The size of a contiguous block, in MB.
+/// The last value that a generation may reach.
+pub const GEN_LAST: u64 = 9223372036854775807;
+
+/// The size of a contiguous block, in MB (DDI 0487, GPT level 1 descriptors, field Contig; TF-A
+/// `GPT_L1_CONT_2MB`, `GPT_L1_CONT_32MB` and `GPT_L1_CONT_512MB`).
 #[derive(Clone, Copy, Debug, PartialEq, Eq)]
 pub enum Size {
     Two,
@@ -9,7 +13,7 @@ pub enum Size {
     FiveTwelve,
 }
 
-/// The largest contiguous size that is used, in MB. `Zero` uses none.
+/// The largest contiguous size that is used, in MB: TF-A `RME_GPT_MAX_BLOCK`. `Zero` uses none.
 #[derive(Clone, Copy, Debug, PartialEq, Eq)]
 pub enum MaxBlock {
     Zero,
@@ -46,6 +50,40 @@ impl Size {
             Size::FiveTwelve => 1 << 29,
         }
     }
+}
+
+impl Generations {
+    /// The generation of a size.
+    pub fn get(self, size: Size) -> u64
+        ensures { result ≡ generation_in size self }
+    {
+        match size {
+            Size::Two => self.two,
+            Size::ThirtyTwo => self.thirty_two,
+            Size::FiveTwelve => self.five_twelve,
+        }
+    }
+
+    /// The generations with that of a size replaced.
+    pub fn with(self, size: Size, value: u64) -> Generations
+        ensures { result ≡ with_generation size value self }
+    {
+        let mut replaced = self;
+        match size {
+            Size::Two => replaced.two = value,
+            Size::ThirtyTwo => replaced.thirty_two = value,
+            Size::FiveTwelve => replaced.five_twelve = value,
+        }
+        replaced
+    }
+}
+
+/// Whether a generation is exhausted: too near to `GEN_LAST` for a transition, which raises it up to
+/// twice.
+pub fn is_worn(value: u64) -> bool
+    ensures { result ≡ is_worn value }
+{
+    value > GEN_LAST - 2
 }
 
 impl MaxBlock {

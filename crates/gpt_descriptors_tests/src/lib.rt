@@ -4,4 +4,6 @@
 #[cfg(test)]
 mod entries;
 #[cfg(test)]
+mod fields;
+#[cfg(test)]
 mod spaces;

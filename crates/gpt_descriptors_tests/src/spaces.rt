@@ -106,7 +106,7 @@ const LEVEL_0: [(u64, [u64; 4], bool); 13] = [
     // A stray block, and a stray table.
     (0x8000_0000, [0xf1, 0x8000_0003, 0x11, 0x8002_0003], false),
     (0x8000_0000, [0xf1, 0x8000_0007, 0x91, 0x8002_0003], false),
-    // The first is behind the base.
+    // The first is after the base.
     (0x8000_0000, [0xf1, 0x8002_0003, 0x91, 0xf1], false),
     // The second is at the first, is left out, and is below it.
     (0x8000_0000, [0xf1, 0x8000_0003, 0x91, 0x8000_0003], false),
@@ -175,6 +175,23 @@ fn geometry() -> Option<Geometry> {
 fn counts() -> Option<(u64, usize)> {
     let geometry = geometry()?;
     Some((geometry.l1_tables(), geometry.words()))
+}
+
+/// The places of the first generation of each size and of the first L1 word.
+fn starts() -> Option<[usize; 4]> {
+    let geometry = geometry()?;
+    Some([
+        geometry.first_generation(Size::Two),
+        geometry.first_generation(Size::ThirtyTwo),
+        geometry.first_generation(Size::FiveTwelve),
+        geometry.first_l1_word(),
+    ])
+}
+
+/// The granule of an address, and its place in its word.
+fn granule(pa: u64) -> Option<(u64, u64)> {
+    let geometry = geometry()?;
+    Some((geometry.granule(pa), geometry.place_in_word(pa)))
 }
 
 /// The places of the generations of an address inside: of 2, 32 and 512 MB.
@@ -253,7 +270,16 @@ fn generations_and_duties_have_places(rt: HostRuntime) {
     for (cpu, want) in DUTIES.iter() {
         assert_eq!(rt; duty(*cpu), *want, "of {cpu}");
     }
+    assert_eq!(rt; starts(), Some([2, 2050, 2178, 2189]));
     places_are_distinct();
+}
+
+#[test]
+fn granules_have_numbers_and_places(rt: HostRuntime) {
+    assert_eq!(rt; granule(0xfff), Some((0, 0)));
+    assert_eq!(rt; granule(0x1000), Some((1, 1)));
+    assert_eq!(rt; granule(0x8000_f000), Some((0x8_000f, 15)));
+    assert_eq!(rt; granule(0xffff_ffff), Some((0xf_ffff, 15)));
 }
 
 #[test]

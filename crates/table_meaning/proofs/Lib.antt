@@ -1,1 +1,5 @@
 pub mod MeaningLemmas
+pub mod ChangeLemmas
+pub mod SplitLemmas
+pub mod TestLemmas
+pub mod FusingLemmas

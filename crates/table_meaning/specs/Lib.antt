@@ -1,1 +1,7 @@
 pub mod Meaning
+pub mod Changing
+pub mod Splitting
+pub mod Merging
+pub mod Fusing
+pub mod Equation
+pub mod Facts

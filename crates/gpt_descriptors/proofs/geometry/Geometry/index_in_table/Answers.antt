@@ -1,6 +1,6 @@
 use Rattle.std.proofs.Common.{sym, refl}
 use Rattle.gpt_descriptors.proofs.PlaceLemmas.{index_told, index_within, index_small}
-use Rattle.gpt_descriptors.proofs.geometry.Geometry.index_behind.Goals as goal
+use Rattle.gpt_descriptors.proofs.geometry.Geometry.index_in_table.Goals as goal
 
 pub overflow_sub-result : goal.overflow_sub-result
 overflow_sub-result c =
