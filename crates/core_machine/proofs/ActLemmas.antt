@@ -36,7 +36,7 @@ use Rattle.core_machine.specs.InnerRaised.{is_due}
 use Rattle.core_machine.specs.InnerAlone.{IsAlone}
 use Rattle.core_machine.specs.InnerCounted.{coming_at, known_answers, caller_tasks}
 use Rattle.core_machine.specs.InnerHistory.{Tells}
-use Rattle.core_machine.specs.InnerInvariant.{IsMade, Stands}
+use Rattle.core_machine.specs.InnerInvariant.{IsMade, Stands, AreIdle}
 use Rattle.core_machine.proofs.ListLemmas.{one, get_set, get_append, get_front}
 use Rattle.core_machine.proofs.LockLemmas.{locks_keep}
 use Rattle.core_machine.proofs.OthersLemmas.{Holder, other_number, made_at_place, is_holder, holder_has}
@@ -135,6 +135,7 @@ pub record Quietly (first : List Gpi) (words after : List ℕ) (callers : List C
   pub tasks : caller_tasks x ≡ caller_tasks me
   pub counted : (k : ℕ) (u : Task) (told : Answer) → slice_get (caller_tasks me) k ≡ Some u → slice_get (known_answers x) k ≡ Some told → IsCounted a.geometry c k u told h
   pub own : own_of c x ≡ own_of c me
+  pub idle : AreIdle a.geometry after
 
 pub quiet_keep : (first : List Gpi) (words after : List ℕ) (callers : List Caller) (h : List Entry) (c : ℕ) (a : AgentData) (me x : Caller) → Stands a.geometry first words callers h → slice_get callers c ≡ Some me
     → Quietly first words after callers h c a me x → Stands a.geometry first after (set callers c x) (h ++ [])
@@ -171,6 +172,7 @@ quiet_keep first words after callers h c a me x stands at q =
           ];
       told = subst (Tells first (set callers c x)) same
           (tells_keep first callers h c 0 me x [] at stands.told (inl refl) (q.own ∙ sym (append-nil (own_of c me))) tt);
+      idle = q.idle;
     })
 
 -- ---- a step that tells one entry of its call, and stays inside
@@ -193,6 +195,7 @@ pub record Telling (first : List Gpi) (words after : List ℕ) (callers : List C
       ≡ generation_word a.geometry words y region + one (is_due y region (caller.Agent (at_stage a s))) + count_of a.geometry.setup.first (granule_bytes a.geometry.setup) y region (h ++ e ∷ [])
   pub coming : (told : Answer) → coming_at next ≡ told ∷ [] → IsCounted a.geometry c (length a.answers) t told (h ++ e ∷ [])
   pub own : own_of c (caller.Agent (goes_to (at_stage a s) next)) ≡ own_of c (caller.Agent (at_stage a s)) ++ e ∷ []
+  pub idle : AreIdle a.geometry after
 
 is_by_own : (c k : ℕ) (e : Entry) → caller_in e ≡ c → call_in e ≡ k → is_by c k e ≡ true
 is_by_own c k e mine call = rw (eq-eqb (caller_in e) c mine, eq-eqb (call_in e) k call) refl
@@ -305,4 +308,5 @@ telling_keep first words after callers h c a t s next e acting tells =
                 counted_more a.geometry d k u told h e (stands.counted d k y u told away.1 asked answered) (is_by_other c d (length a.answers) k e tells.by.0 tells.by.1 (inl away.0))
           ];
       told = tells_keep first callers h c (length a.answers) me x (e ∷ []) acting.at stands.told (inr (e, refl, tells.by.0, tells.by.1)) tells.own (tells.allowed, tt);
+      idle = tells.idle;
     }

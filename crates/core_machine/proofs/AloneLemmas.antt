@@ -46,7 +46,7 @@ last_split (y ∷ h) e (b ∷ before) after x parts =
       | inr more ↦ inr (more.0, more.1, let first : y ≡ b = cc in let rest = more.2 in cc)
     ]
 
-all_middle : {X : Type 0} (P : X → Type 0) (before rest : List X) (x : X) → All P (before ++ x ∷ rest) → P x
+pub all_middle : {X : Type 0} (P : X → Type 0) (before rest : List X) (x : X) → All P (before ++ x ∷ rest) → P x
 all_middle P [] rest x all = All-head P x rest all
 all_middle P (b ∷ before) rest x all = all_middle P before rest x (All-tail P b (before ++ x ∷ rest) all)
 
@@ -63,7 +63,7 @@ stands_behind p P (y ∷ first) since (b ∷ before) rest x parts none some all 
       | inr there ↦ stands_behind p P first since before rest x (let rest_so : first ++ since ≡ before ++ x ∷ rest = cc in rest_so) apart.1 there all
     ]
 
-any_weaker : {X : Type 0} (p q : X → Bool) (xs : List X) → ((x : X) → p x ≡ true → q x ≡ true) → list_any p xs ≡ true → list_any q xs ≡ true
+pub any_weaker : {X : Type 0} (p q : X → Bool) (xs : List X) → ((x : X) → p x ≡ true → q x ≡ true) → list_any p xs ≡ true → list_any q xs ≡ true
 any_weaker p q [] weaker some = absurd (let both : false ≡ true = some in cc)
 any_weaker p q (x ∷ xs) weaker some =
     elim (or_cases (p x) (list_any p xs) some) [
@@ -74,7 +74,7 @@ any_weaker p q (x ∷ xs) weaker some =
 any_parts : {X : Type 0} (p : X → Bool) (xs ys : List X) → list_any p (xs ++ ys) ≡ true → (list_any p xs ≡ true) ⊎ (list_any p ys ≡ true)
 any_parts p xs ys some = or_cases (list_any p xs) (list_any p ys) (sym (list_any-append p xs ys) ∙ some)
 
-any_one : {X : Type 0} (p : X → Bool) (x : X) → list_any p (x ∷ []) ≡ true → p x ≡ true
+pub any_one : {X : Type 0} (p : X → Bool) (x : X) → list_any p (x ∷ []) ≡ true → p x ≡ true
 any_one p x some = elim (or_cases (p x) false some) [ inl here ↦ here | inr none ↦ absurd (let both : false ≡ true = none in cc) ]
 
 -- ---- undisturbed calls
@@ -151,7 +151,7 @@ alone_starts s n c k h none = record {
 abbrev pub IsNumbered : ℕ → ℕ → Entry → Type 0
 IsNumbered c k e = (caller_in e ≡ c) × (call_in e ≡ k)
 
-all_two : {X : Type 0} (P : X → Type 0) (x y : X) → P x → P y → All P (x ∷ y ∷ [])
+pub all_two : {X : Type 0} (P : X → Type 0) (x y : X) → P x → P y → All P (x ∷ y ∷ [])
 all_two P x y first second = All-cons P x (y ∷ []) first (all_one P y second)
 
 look_numbers : (c k granule : ℕ) (space : Space) (access : Access) (still : Bool) → is_still access.via ≡ still → All (IsNumbered c k) (look_entries c k granule space access)
@@ -183,7 +183,7 @@ other_number c k n (e ∷ es) apart all =
     (and_right (eqb (caller_in e) c) (eqb (call_in e) n) (ne_eqb (call_in e) n (λ same. apart (sym here.1 ∙ same))))
     (other_number c k n es apart (All-tail (IsNumbered c k) e es all))
 
-later_number : (bytes c k n : ℕ) (tasks : List Task) (answers : List Answer) → k + length answers ≤ n → list_any (is_by c n) (answered_entries bytes c k tasks answers) ≡ false
+pub later_number : (bytes c k n : ℕ) (tasks : List Task) (answers : List Answer) → k + length answers ≤ n → list_any (is_by c n) (answered_entries bytes c k tasks answers) ≡ false
 later_number bytes c k n [] answers low = refl
 later_number bytes c k n (t ∷ tasks) [] low = refl
 later_number bytes c k n (t ∷ tasks) (a ∷ answers) low =

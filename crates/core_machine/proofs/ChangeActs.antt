@@ -32,6 +32,7 @@ use Rattle.core_machine.specs.declared.caller.Caller.TheVariants as caller
 use Rattle.core_machine.specs.InnerTables.{table_word}
 use Rattle.core_machine.specs.InnerSeen.{comes_before, SeesAll}
 use Rattle.core_machine.specs.InnerInvariant.{IsMade, Stands}
+use Rattle.core_machine.proofs.IdleLemmas.{idle_word}
 use Rattle.core_machine.proofs.ListLemmas.{one}
 use Rattle.core_machine.proofs.TableLemmas.{usable_aligned}
 use Rattle.core_machine.proofs.ChangeLemmas.{change_means}
@@ -117,6 +118,7 @@ change_stands first words callers h c i a t ch k acting index made =
       block = λ n on. sym (ap (lock_number g.setup) (sym (granule_address g t acting.acts)) ∙ eqb-true _ _ on);
       allowed = (gives, closed_here (state_of first h) callers c granule (caller.Agent (at_stage a s)) acting.at stands.opened closed refl);
       tables = change_means g words map pa i k.word (to_of t ch) stands.shape.geometry stands.tables inside aligned index low count here sees.granules;
+      idle = idle_word g words i _ within stands.idle;
       opened = opened_change (state_of first h).opened _ callers c granule (from_of t ch) (caller.Agent (at_stage a s)) (caller.Agent (goes_to (at_stage a s) next)) acting.at stands.opened refl refl (rw acting.under_way refl) closed;
       locks = λ n below. locks_stay words place _ n (omega arith) below;
       seen = rw acting.under_way

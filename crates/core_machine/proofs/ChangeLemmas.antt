@@ -35,6 +35,7 @@ use Rattle.core_machine.specs.InnerTables.{table_gpi, table_word, MeansMap, AreC
 use Rattle.core_machine.proofs.ListLemmas.{get_set_same, get_set_other}
 use Rattle.core_machine.proofs.TableLemmas.{granule_back, granule_within}
 use Rattle.core_machine.specs.Scenarios.{map_at}
+use Rattle.table_meaning.specs.Fusing.{beside}
 
 -- ---- granules and their words
 

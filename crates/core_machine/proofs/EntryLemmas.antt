@@ -36,6 +36,7 @@ use Rattle.core_machine.proofs.ListLemmas.{all_one}
 use Rattle.core_machine.proofs.TableLemmas.{granule_within}
 use Rattle.core_machine.proofs.ToldLemmas.{idle_quiet}
 use Rattle.delegate_ops.specs.InnerEntries.{entries_at, entries_before}
+use Rattle.delegate_ops.specs.InnerScript.{IsPrefix}
 
 -- ---- granules inside the space
 

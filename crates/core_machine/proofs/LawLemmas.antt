@@ -30,6 +30,7 @@ use Rattle.core_machine.proofs.LoadActs.{look_keeps, read_keeps}
 use Rattle.core_machine.proofs.ChangeActs.{change_keeps}
 use Rattle.core_machine.proofs.RaiseActs.{raise_keeps}
 use Rattle.delegate_ops.specs.Script.{lock_bit_of}
+use Rattle.delegate_ops.specs.InnerEntries.{made_at}
 
 -- ---- an agent after an act was made as before
 

@@ -31,6 +31,7 @@ use Rattle.core_machine.proofs.AloneLemmas.{own_first}
 use Rattle.core_machine.proofs.LoadActs.{length_after}
 use Rattle.core_machine.proofs.EntryLemmas.{IsOwnEntry, call_allowed, IsPrefixFit, prefix_fits, prefix_allowed}
 use Rattle.delegate_ops.specs.InnerEntries.{entries_at}
+use Rattle.delegate_ops.specs.InnerScript.{HasWalked, IsPrefix}
 
 -- ---- an entry that its call allows
 
@@ -243,13 +244,3 @@ made_calls g first callers h tasks tells have made count = record {
   callers = λ c own told asks answers. told_calls g first callers h tasks c own told tells have made asks answers;
   known = subst (λ (n : ℕ). All (λ (e : Entry). caller_in e < n) h) (sym count) tells.known;
 }
-
--- ---- its premises, of callers that stand
-
-pub are_made : (g : GeometryData) (callers : List Caller) → All (IsMade g) callers → AreMade g callers
-are_made g callers all = λ c a at.
-    subst (IsMade g) (get_or_from_slice_get callers c (caller.Agent a) (caller.Agent a) at)
-    (all c (caller.Agent a) (slice_get_within callers c (caller.Agent a) at))
-
-pub have_own : (callers : List Caller) → HaveTasks (map caller_tasks callers) callers
-have_own callers = λ c a at. slice_get-map caller_tasks callers c ∙ ap (λ (o : Option Caller). option_map caller_tasks o) at

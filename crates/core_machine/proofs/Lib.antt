@@ -8,6 +8,7 @@ pub mod OpenedLemmas
 pub mod RaisedLemmas
 pub mod AloneLemmas
 pub mod CountedLemmas
+pub mod IdleLemmas
 pub mod ActLemmas
 pub mod LockActs
 pub mod LoadActs
@@ -21,4 +22,7 @@ pub mod EntryLemmas
 pub mod LegalLemmas
 pub mod PlayLemmas
 pub mod FitLemmas
+pub mod TraceLemmas
+pub mod AnswerLemmas
+pub mod PartLemmas
 pub mod RunLemmas

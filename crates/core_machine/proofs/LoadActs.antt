@@ -86,6 +86,7 @@ load_quietly first words callers h c a t s next acting inside stays made open_sa
       size = refl;
       made = made;
       tables = stands.tables;
+      idle = stands.idle;
       opened = rw acting.under_way open_same;
       locks = λ n below. rw (inside, stays) refl;
       seen = rw acting.under_way sees;
@@ -124,6 +125,7 @@ refuse first words callers h c a t s found told acting inside made open_none due
       block = λ n on. sym (ap (lock_number a.geometry.setup) (sym (granule_address a.geometry t acting.acts)) ∙ eqb-true _ _ on);
       allowed = (gives, closed_here (state_of first h) callers c (granule_of_task a.geometry t) me acting.at stands.opened (closed_of first words callers h c a t s acting inside) own_open);
       tables = stands.tables;
+      idle = stands.idle;
       opened = opened_stays (state_of first h).opened (state_of first h).opened callers c me (caller.Agent (goes_to (at_stage a s) next)) acting.at stands.opened refl (sym own_open);
       locks = λ n below. refl;
       seen = tt;

@@ -33,6 +33,7 @@ use Rattle.core_machine.specs.InnerOpened.{open_by}
 use Rattle.core_machine.specs.InnerRaised.{is_due}
 use Rattle.core_machine.specs.InnerCounted.{known_answers, caller_tasks}
 use Rattle.core_machine.specs.InnerInvariant.{IsMade, Stands}
+use Rattle.core_machine.proofs.IdleLemmas.{idle_lock}
 use Rattle.core_machine.proofs.ListLemmas.{get_append}
 use Rattle.core_machine.proofs.LockLemmas.{holder_bit, take_free, take_held, release_held}
 use Rattle.core_machine.proofs.TableLemmas.{tables_keep, locks_apart}
@@ -94,6 +95,7 @@ take_keeps first words callers h c a t acting made =
               size = length-set words (n / 64) _;
               made = rw free at made;
               tables = tables_keep a.geometry words after (state_of first h).map stands.shape.geometry (locks_apart a.geometry words (n / 64) _ row) stands.tables;
+              idle = idle_lock a.geometry words (n / 64) _ row stands.idle;
               opened = refl;
               locks = λ m below. rw acting.under_way (take_free words n m within (eqb-true _ _ free));
               seen = tt;
@@ -111,6 +113,7 @@ take_keeps first words callers h c a t acting made =
               size = length-set words (n / 64) _;
               made = rw held at made;
               tables = tables_keep a.geometry words after (state_of first h).map stands.shape.geometry (locks_apart a.geometry words (n / 64) _ row) stands.tables;
+              idle = idle_lock a.geometry words (n / 64) _ row stands.idle;
               opened = refl;
               locks = λ m below. ap (λ (bit : ℕ). bit + 0) (take_held words n m within (λ free. absurd (let both = eq-eqb _ _ free in cc)));
               seen = tt;
@@ -177,6 +180,7 @@ released first words callers h c a t o x acting made holds_none open_none due_no
       size = length-set words (n / 64) _;
       made = made;
       tables = tables_keep a.geometry words _ (state_of first h).map stands.shape.geometry (locks_apart a.geometry words (n / 64) _ row) stands.tables;
+              idle = idle_lock a.geometry words (n / 64) _ row stands.idle;
       opened = open_none;
       locks = λ m below. rw (holds_none m, acting.under_way) (release_held words n m within set_bit);
       seen = sees _;

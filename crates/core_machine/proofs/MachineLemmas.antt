@@ -44,6 +44,7 @@ use Rattle.core_machine.proofs.LawLemmas.{one_act}
 use Rattle.core_machine.specs.Facts.{IsCounted}
 use Rattle.core_machine.specs.Scenarios.{round_turns}
 use Rattle.history.specs.States.{start}
+use Rattle.delegate_ops.specs.InnerScript.{HasWalked}
 
 -- ---- one turn
 
@@ -177,6 +178,7 @@ opening_stands g first callers words fresh_all starting = record {
     own = λ c x at. sym (fresh_own g c x (fresh_at g callers c x fresh_all at));
     known = All-nil (λ e. caller_in e < length callers);
   };
+  idle = record { duty = starting.duty; lines = starting.lines };
 }
 
 -- ---- many turns

@@ -17,7 +17,7 @@ use Rattle.gpt_descriptors.specs.Sizes.{SetupData, granule_bytes, word_bytes, wo
 use Rattle.gpt_descriptors.specs.Entries.{l0_entry, l1_entry, word_gpi}
 use Rattle.gpt_descriptors.specs.Canonical.{is_one_block, canonical_with, canonical_word}
 use Rattle.gpt_descriptors.specs.Level0.{l1_index}
-use Rattle.gpt_descriptors.specs.Places.{GeometryData, IsGeometry, Lock, Generation, Level1, place_of, l0_words, l1_words, l1_index_of, block_gpi_in}
+use Rattle.gpt_descriptors.specs.Places.{GeometryData, IsGeometry, Lock, Generation, Duty, Level1, Line, place_of, l0_words, l1_words, l1_index_of, block_gpi_in}
 use Rattle.gpt_descriptors.proofs.SizeLemmas.{word_is}
 use Rattle.gpt_descriptors.proofs.PlaceLemmas.{index_within, region_of_word}
 use Rattle.gpt_descriptors.proofs.MeaningLemmas.{contiguous_again, packed_entry, canonical_meaning}
@@ -47,7 +47,7 @@ index_of xs i x at = get_or_from_slice_get xs i x 0 at
 
 -- ---- numbers of granules
 
-word_back : (s : SetupData) (granule : ℕ) → granule * granule_bytes s / word_bytes s ≡ granule / 16
+pub word_back : (s : SetupData) (granule : ℕ) → granule * granule_bytes s / word_bytes s ≡ granule / 16
 word_back s granule =
     ap (λ (n : ℕ). granule * granule_bytes s / n) (word_is s ∙ mul_comm 16 (granule_bytes s))
     ∙ sym (div-div-eq-div-mul (granule * granule_bytes s) (granule_bytes s) 16) ∙ ap (λ (n : ℕ). n / 16) (granule_back s granule)
@@ -174,6 +174,8 @@ built_starts g regions geometry level0 accepted good size = record {
   free = λ n low. index_of (start_words g (region_l1 g.setup regions)) (place_of g (Lock n)) 0 (start_named g (region_l1 g.setup regions) (Lock n) size low);
   granules = length-map-range_with_len (region_map g.setup regions) 0 (space_granules g.setup);
   tables = built_means g regions geometry level0 accepted good size;
+  duty = λ cpu low. index_of (start_words g (region_l1 g.setup regions)) (place_of g (Duty cpu)) 0 (start_named g (region_l1 g.setup regions) (Duty cpu) size low);
+  lines = λ i low. index_of (start_words g (region_l1 g.setup regions)) (place_of g (Line i)) 0 (start_named g (region_l1 g.setup regions) (Line i) size low);
   generations = λ y region within.
       index_of (start_words g (region_l1 g.setup regions)) (place_of g (Generation y region)) g.setup.first (start_named g (region_l1 g.setup regions) (Generation y region) size within);
 }

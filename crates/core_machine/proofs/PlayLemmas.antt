@@ -25,7 +25,7 @@ use Rattle.delegate_ops.proofs.AgentLemmas.{idle_few, idle_then_acts, locking_fi
 use Rattle.core_machine.specs.declared.caller.Caller.{Caller}
 use Rattle.core_machine.specs.InnerCallers.{caller_next}
 use Rattle.core_machine.specs.InnerOpening.{IsFresh, AreStarting}
-use Rattle.core_machine.specs.InnerMachine.{MachineData, StandsFor, after_act_of, after_turn_of, after_turn, after_turns}
+use Rattle.core_machine.specs.InnerMachine.{MachineData, StandsFor, after_act_of, after_turn_of, after_turn, after_turns, told_in}
 use Rattle.core_machine.specs.InnerPlay.{caller_of, opening_of, NamesCaller, played}
 use Rattle.core_machine.proofs.CallLemmas.{asks_no_looks}
 use Rattle.core_machine.proofs.MachineLemmas.{opening_stands, turns_stand}
@@ -90,7 +90,7 @@ pub opening_so : (s : Scenario) → IsAccepted s → IsGeometry (geometry_of s) 
 opening_so s accepted geometry tables =
     opening_stands (geometry_of s) (first_map s) _ _ (callers_fresh (geometry_of s) s.scripts geometry) (opening_starts s accepted geometry tables)
 
-pub played_so : (s : Scenario) → IsAccepted s → IsGeometry (geometry_of s) → AreTables (tables_of s.setup s.regions) → StandsFor (first_map s) (played s) (played_history s)
+pub played_so : (s : Scenario) → IsAccepted s → IsGeometry (geometry_of s) → AreTables (tables_of s.setup s.regions) → StandsFor (first_map s) (played s) (told_in (opening_of s) (turns_in s))
 played_so s accepted geometry tables = turns_stand (first_map s) (opening_of s) [] (turns_in s) (opening_so s accepted geometry tables)
 
 -- ---- the code's machine
@@ -121,9 +121,5 @@ played_is s m n so turned =
     turned ∙ ap (λ (k : MachineData). after_turns k (flat_map (slot_turns (length m.callers)) s.schedule)) so
     ∙ ap (λ (count : ℕ). after_turns (opening_of s) (flat_map (slot_turns count) s.schedule)) (callers_of_opening s m so)
 
-pub played_stands : (s : Scenario) (m : MachineData) → m ≡ opening_of s → StandsFor (first_map s) m [] → StandsFor (first_map s) (played s) (played_history s)
+pub played_stands : (s : Scenario) (m : MachineData) → m ≡ opening_of s → StandsFor (first_map s) m [] → StandsFor (first_map s) (played s) (told_in (opening_of s) (turns_in s))
 played_stands s m so stands = turns_stand (first_map s) (opening_of s) [] (turns_in s) (subst (λ (k : MachineData). StandsFor (first_map s) k []) so stands)
-
-pub always : {A E : Type 0} (P : Type 0) (r : Result A E) → P → IfOk r (λ x. P)
-always P (Ok x) p = p
-always P (Err e) p = tt

@@ -37,6 +37,7 @@ use Rattle.core_machine.specs.InnerSeen.{comes_before, SeesGeneration, SeesAll, 
 use Rattle.core_machine.specs.InnerRaised.{is_due_at, is_due}
 use Rattle.core_machine.specs.InnerCounted.{coming_at}
 use Rattle.core_machine.specs.InnerInvariant.{IsMade, Stands}
+use Rattle.core_machine.proofs.IdleLemmas.{idle_generation}
 use Rattle.core_machine.proofs.ListLemmas.{one}
 use Rattle.core_machine.proofs.TableLemmas.{tables_keep, generations_apart}
 use Rattle.core_machine.proofs.OthersLemmas.{generation_low, index_at, generation_apart, others_see, granule_address, region_at}
@@ -183,6 +184,7 @@ raise_quietly first words callers h c a t ch z k next acting low owes made =
       size = length-set words place _;
       made = made;
       tables = tables_keep g words _ (state_of first h).map stands.shape.geometry (generations_apart g words z (address_of t) _ inside) stands.tables;
+      idle = idle_generation g words z (address_of t) _ inside stands.idle;
       opened = rw acting.under_way refl;
       locks = λ n below. rw (locks_stay words place (generation_in z k.generations + 1) n (generation_low g z (address_of t / size_bytes z)) below) refl;
       seen = rw acting.under_way (sees_raised g words t (to_of t ch) z k stands.shape.geometry inside low (seen_of first words callers h c a t s acting));
@@ -276,6 +278,7 @@ raise_last first words callers h c a t ch k next acting low settles made =
       block = λ n on. sym (ap (lock_number g.setup) (sym (granule_address g t acting.acts)) ∙ eqb-true _ _ on);
       allowed = open_here (state_of first h) callers c granule (from_of t ch) me acting.at stands.opened closed own_open;
       tables = tables_keep g words _ (state_of first h).map stands.shape.geometry (generations_apart g words size.FiveTwelve (address_of t) _ inside) stands.tables;
+      idle = idle_generation g words size.FiveTwelve (address_of t) _ inside stands.idle;
       opened = opened_settle (state_of first h).opened _ callers c granule (from_of t ch) me x acting.at stands.opened refl own_open own_closed closed;
       locks = λ n below. locks_stay words place _ n (generation_low g size.FiveTwelve (address_of t / size_bytes size.FiveTwelve)) below;
       seen = rw acting.under_way (settles.sees (sees_raised g words t (to_of t ch) size.FiveTwelve k stands.shape.geometry inside low sees));

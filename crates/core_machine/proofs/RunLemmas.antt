@@ -1,7 +1,7 @@
--- What a run leaves: each caller's events are those of its script, and the facts of the core as a reader
--- of the history sees them.
-use Rattle.std.proofs.Common.{◌≡◌, ℕ, zero, suc, ◌+◌, ◌*◌, ◌/◌, ◌<◌, ◌⊎◌, ◌++◌, ◌∷◌, [], List, Bool, true, false, ◌&&◌, eqb, map, length, Option, Some, None, refl, sym, ap, ◌∙◌, subst, arith, inl, inr, append_assoc, append-nil}
-use Rattle.std.specs.Prelude.{slice_get}
+-- What a run leaves: its trace, and what answers and words are for the trace's history.
+use Rattle.std.proofs.Common.{◌≡◌, ◌≢◌, ℕ, zero, suc, ◌+◌, ◌*◌, ◌/◌, ◌<◌, ◌≤◌, not, ◌⊎◌, ◌++◌, ◌∷◌, [], List, Bool, true, false, ◌&&◌, eqb, map, length, Option, Some, None, refl, sym, ap, ◌∙◌, subst, arith, inl, inr, append_assoc, append-nil}
+use Rattle.std.specs.Prelude.{slice_get, is_some, Result, Ok, Err, IfOk}
+use Rattle.history.specs.declared.outcome.Outcome.{Outcome}
 use Rattle.std.specs.List.{All, count_by, filter}
 use Rattle.std.specs.Option.{option_map}
 use Rattle.std.proofs.Math.Nat.{mul-div_cancel}
@@ -9,7 +9,8 @@ use Rattle.std.proofs.lemmas.Bool.{cases_Bool, eqb-true, eq-eqb, ne_eqb}
 use Rattle.std.proofs.lemmas.List.{length-map, map-append}
 use Rattle.std.proofs.lemmas.List.Elements.{filter-append}
 use Rattle.std.proofs.lemmas.List.Sums.{sum_by-cons}
-use Rattle.std.proofs.lemmas.Option.{slice_get-map, slice_get_past, slice_get_within, get_or_from_slice_get}
+use Rattle.std.proofs.lemmas.List.Elements.{All-head, All-tail}
+use Rattle.std.proofs.lemmas.Option.{slice_get_cases, slice_get-map, slice_get_past, slice_get_within, get_or_from_slice_get}
 use Rattle.gpi_values.specs.declared.gpi.Gpi.{Gpi}
 use Rattle.gpt_descriptors.specs.declared.size.Size.{Size}
 use Rattle.gpt_descriptors.specs.declared.size.Size.TheVariants as size
@@ -29,106 +30,40 @@ use Rattle.history.specs.Calls.{task_at, answer_at}
 use Rattle.history.specs.Counts.{region_of, count_of}
 use Rattle.delegate_ops.specs.declared.stage.Stage.{Stage}
 use Rattle.delegate_ops.specs.declared.stage.Stage.TheVariants as stage
-use Rattle.delegate_ops.specs.Deciding.{address_of}
-use Rattle.delegate_ops.specs.Agents.{AgentData, fresh, task_of, took_of}
+use Rattle.delegate_ops.specs.Deciding.{address_of, HasCause}
+use Rattle.delegate_ops.specs.Agents.{AgentData, fresh, task_of, took_of, IsAgent, has_ended, next_of}
 use Rattle.delegate_ops.proofs.DecidingLemmas.{acts_inside}
-use Rattle.delegate_ops.specs.Script.{CallEvent, granule_of_task}
-use Rattle.delegate_ops.proofs.ScriptLemmas.{some_mapped, fresh_stands, step_walks}
+use Rattle.delegate_ops.specs.Script.{CallEvent, granule_of_task, Follows, HasStopped}
+use Rattle.delegate_ops.proofs.ScriptLemmas.{some_mapped}
 use Rattle.core_machine.specs.declared.caller.Caller.{Caller}
 use Rattle.core_machine.specs.declared.caller.Caller.TheVariants as caller
 use Rattle.core_machine.specs.InnerCallers.{caller_next, caller_took, caller_answers, caller_left}
 use Rattle.core_machine.specs.InnerLocks.{is_inside, holds}
 use Rattle.core_machine.specs.InnerRaised.{is_due_at, is_around, is_due}
-use Rattle.core_machine.specs.InnerCounted.{coming_at}
+use Rattle.core_machine.specs.InnerCounted.{coming_at, caller_tasks}
 use Rattle.core_machine.specs.InnerInvariant.{IsMade, Stands}
-use Rattle.core_machine.specs.InnerMachine.{MachineData, StandsFor, after_act_of, event_of, after_turn_of, turn_event_of, turn_told, after_turn, after_turns, trace_of}
-use Rattle.core_machine.specs.InnerPlay.{caller_of, opening_of, played}
+use Rattle.core_machine.specs.InnerMachine.{MachineData, StandsFor, after_act_of, event_of, after_turn_of, turn_event_of, turn_told, after_turn, after_turns, trace_of, told_in}
+use Rattle.core_machine.specs.InnerPlay.{caller_of, opening_of, played, outcome_of, played_trace}
 use Rattle.core_machine.proofs.ListLemmas.{one, get_set, get_front}
 use Rattle.core_machine.proofs.LockLemmas.{holder_bit}
-use Rattle.core_machine.proofs.ChangeLemmas.{means_canonical, means_covers}
 use Rattle.core_machine.proofs.OthersLemmas.{Holder, made_at_place, is_holder, holder_has, count_alone, count_none, number_by_region, region_at}
 use Rattle.core_machine.proofs.RaisedLemmas.{others_raised}
 use Rattle.core_machine.proofs.ActLemmas.{lock_low}
 use Rattle.core_machine.proofs.LoadActs.{state_length}
-use Rattle.core_machine.proofs.MachineLemmas.{turn_stands}
-use Rattle.core_machine.proofs.LegalLemmas.{HaveTasks, made_legal, made_calls, are_made}
+use Rattle.core_machine.proofs.MachineLemmas.{turns_stand}
+use Rattle.core_machine.proofs.TraceLemmas.{played_walked, trace_told, trace_words, trace_answered, IsDone, done_stays, turns_taken, trace_known, trace_counts}
+use Rattle.core_machine.proofs.AnswerLemmas.{calls_cause, alone_told, worn_told}
+use Rattle.core_machine.proofs.PartLemmas.{tables_told, canonical_told}
+use Rattle.delegate_ops.proofs.FollowLemmas.{walked_follows, walked_ended}
+use Rattle.delegate_ops.proofs.NextLemmas.{next_there}
+use Rattle.scenario_text.specs.declared.scenario.Look.{Look}
+use Rattle.core_machine.proofs.LegalLemmas.{HaveTasks, AreMade, made_legal, made_calls}
 use Rattle.core_machine.proofs.PlayLemmas.{turns_geometry}
 use Rattle.core_machine.proofs.FitLemmas.{agent_tasks, took_tasks, turns_leave}
-use Rattle.core_machine.specs.Facts.{IsCounted, generation_word}
-use Rattle.core_machine.specs.Trace.{TraceEvent, events_of}
-use Rattle.core_machine.specs.Scenarios.{first_map, geometry_of, task_of_ask, tasks_of, turns_in}
-
--- ---- each caller's events
-
-of_append : (c : ℕ) (xs ys : List TraceEvent) → events_of c (xs ++ ys) ≡ events_of c xs ++ events_of c ys
-of_append c xs ys =
-    ap (map (λ (e : TraceEvent). record { act = e.act; old = e.old })) (filter-append (λ e. eqb e.caller c) xs ys)
-    ∙ map-append (λ (e : TraceEvent). record { act = e.act; old = e.old }) (filter (λ e. eqb e.caller c) xs) (filter (λ e. eqb e.caller c) ys)
-
--- an agent goes on from another by these events of its script
-abbrev GoesOn : AgentData → AgentData → List CallEvent → Type 0
-GoesOn a b events = (before : List CallEvent) → StandsAfter a before → StandsAfter b (before ++ events)
-
--- where the agent at c comes from in a turn of d
-pub record Comes (m : MachineData) (c : ℕ) (b : AgentData) (events : List CallEvent) : Type 0 where
-  pub from : AgentData
-  pub at : slice_get m.callers c ≡ Some (caller.Agent from)
-  pub goes : GoesOn from b events
-
-stays_at : (m : MachineData) (c : ℕ) (b : AgentData) → slice_get m.callers c ≡ Some (caller.Agent b) → Comes m c b []
-stays_at m c b at = record { from = b; at = at; goes = λ before stands. subst (StandsAfter b) (sym (append-nil before)) stands }
-
--- the agent that made its act
-steps_from : (m : MachineData) (c : ℕ) (x : Caller) (t : Act) (b : AgentData) → slice_get m.callers c ≡ Some x → caller_next x ≡ Some t → IsMade m.geometry x → caller_took x (answer_of t m.words) ≡ caller.Agent b
-    → Comes m c b (record { act = t; old = answer_of t m.words } ∷ [])
-steps_from m c (caller.Agent a) t b at next made took =
-    let same : took_of a (answer_of t m.words) ≡ b = cc in
-    record { from = a; at = at; goes = λ before stands. subst (λ (y : AgentData). StandsAfter y (before ++ record { act = t; old = answer_of t m.words } ∷ [])) same (step_walks a before t (answer_of t m.words) made.1 stands next) }
-steps_from m c (caller.Cpu looks) t b at next made took = absurd cc
-
-act_comes : (m : MachineData) (c d : ℕ) (x : Caller) (o : Option Act) (b : AgentData) → slice_get m.callers d ≡ Some x → caller_next x ≡ o → IsMade m.geometry x → slice_get (after_act_of m d x o).callers c ≡ Some (caller.Agent b)
-    → Comes m c b (events_of c (event_of m d o))
-act_comes m c d x None b at next made there = stays_at m c b there
-act_comes m c d x (Some t) b at next made there =
-    elim (get_set m.callers d c (caller_took x (answer_of t m.words)) (caller.Agent b) there) [
-      | inl here ↦
-          rw (eq-eqb d c (sym here.0)) (steps_from m c x t b (subst (λ (n : ℕ). slice_get m.callers n ≡ Some x) (sym here.0) at) next made here.1)
-      | inr away ↦ rw (ne_eqb d c (λ same. away.0 (sym same))) (stays_at m c b away.1)
-    ]
-
-turn_comes : (first : List Gpi) (m : MachineData) (h : List Entry) (c d : ℕ) (o : Option Caller) (b : AgentData) → StandsFor first m h → slice_get m.callers d ≡ o → slice_get (after_turn_of m d o).callers c ≡ Some (caller.Agent b)
-    → Comes m c b (events_of c (turn_event_of m d o))
-turn_comes first m h c d None b stands at there = stays_at m c b there
-turn_comes first m h c d (Some x) b stands at there =
-    act_comes m c d x (caller_next x) b at refl (made_at_place m.geometry first m.words m.callers d x stands.shape at) there
-
-turns_come : (first : List Gpi) (m : MachineData) (h : List Entry) (turns : List ℕ) (c : ℕ) (b : AgentData) → StandsFor first m h → slice_get (after_turns m turns).callers c ≡ Some (caller.Agent b)
-    → Comes m c b (events_of c (trace_of m turns))
-turns_come first m h [] c b stands there = stays_at m c b there
-turns_come first m h (d ∷ turns) c b stands there =
-    let later = turns_come first (after_turn m d) (h ++ turn_told m d) turns c b (turn_stands first m h d stands) there in
-    let now = turn_comes first m h c d (slice_get m.callers d) later.from stands refl later.at in
-    let whole = of_append c (turn_event_of m d (slice_get m.callers d)) (trace_of (after_turn m d) turns) in
-    record {
-      from = now.from;
-      at = now.at;
-      goes = λ before stands_so.
-          subst (StandsAfter b) (append_assoc before (events_of c (turn_event_of m d (slice_get m.callers d))) (events_of c (trace_of (after_turn m d) turns)) ∙ ap (λ (es : List CallEvent). before ++ es) (sym whole))
-          (later.goes (before ++ events_of c (turn_event_of m d (slice_get m.callers d))) (now.goes before stands_so));
-    }
-
--- an agent of the opening has no events yet
-opening_agent : (g : GeometryData) (scripts : List Script) (c : ℕ) (a : AgentData) → slice_get (map (caller_of g) scripts) c ≡ Some (caller.Agent a) → StandsAfter a []
-opening_agent g [] c a at = absurd cc
-opening_agent g (script.Agent asks ∷ scripts) zero a at = let same : fresh g (map task_of_ask asks) ≡ a = cc in subst (λ (b : AgentData). StandsAfter b []) same (fresh_stands g (map task_of_ask asks))
-opening_agent g (script.Cpu looks ∷ scripts) zero a at = absurd cc
-opening_agent g (s ∷ scripts) (suc c) a at = opening_agent g scripts c a at
-
-pub scripts_walked : (s : Scenario) (c : ℕ) (a : AgentData) → StandsFor (first_map s) (opening_of s) [] → slice_get (played s).callers c ≡ Some (caller.Agent a)
-    → StandsAfter a (events_of c (trace_of (opening_of s) (turns_in s)))
-scripts_walked s c a stands there =
-    let comes = turns_come (first_map s) (opening_of s) [] (turns_in s) c a stands there in
-    comes.goes [] (opening_agent (geometry_of s) s.scripts c comes.from comes.at)
+use Rattle.core_machine.specs.Facts.{IsCounted, generation_word, FitsHistory}
+use Rattle.core_machine.specs.Trace.{TraceEvent, events_of, FollowsScript, HasEnded, IsTrace, answers_by, history_of}
+use Rattle.core_machine.specs.Scenarios.{first_map, geometry_of, task_of_ask, tasks_of, turns_in, first_words}
+use Rattle.core_machine.specs.Run.{IsRun}
 
 -- ---- tasks
 
@@ -250,39 +185,196 @@ generations_told g first words callers h stands y region within =
 
 -- ---- locks at the end
 
-holds_none : (n : ℕ) (g : GeometryData) (x : Caller) → IsMade g x → caller_left x ≡ 0 → holds n x ≡ false
-holds_none n g (caller.Cpu looks) made left = refl
-holds_none n g (caller.Agent a) made left =
-    let all : length a.tasks ≡ length a.answers = omega (arith, made.1.answered, left) in
-    rw (slice_get_past a.tasks (length a.answers) (omega (arith, all))) (elim (cases_Bool (is_inside a.stage)) [ inl inside ↦ rw inside refl | inr outside ↦ rw outside refl ])
+holds_none : (n : ℕ) (g : GeometryData) (x : Caller) → IsMade g x → length (caller_tasks x) ≤ length (caller_answers x) → holds n x ≡ false
+holds_none n g (caller.Cpu looks) made all = refl
+holds_none n g (caller.Agent a) made all =
+    rw (slice_get_past a.tasks (length a.answers) all) (elim (cases_Bool (is_inside a.stage)) [ inl inside ↦ rw inside refl | inr outside ↦ rw outside refl ])
 
-pub locks_ended : (g : GeometryData) (first : List Gpi) (words : List ℕ) (callers : List Caller) (h : List Entry) → Stands g first words callers h → All (λ x. caller_left x ≡ 0) callers → (n : ℕ) → n < 128 → lock_bit words n ≡ 0
-locks_ended g first words callers h stands all n below =
+answers_of_caller : (callers : List Caller) (c : ℕ) (x : Caller) → slice_get callers c ≡ Some x → slice_get (map caller_answers callers) c ≡ Some (caller_answers x)
+answers_of_caller callers c x at = slice_get-map caller_answers callers c ∙ ap (option_map caller_answers) at
+
+-- a caller of which each task is answered
+all_answered : (tasks : List (List Task)) (callers : List Caller) (c : ℕ) (x : Caller) → HaveTasks tasks callers → slice_get callers c ≡ Some x
+    → ((d k : ℕ) (t : Task) → task_at tasks d k ≡ Some t → answer_at (map caller_answers callers) d k ≡ None → ⊥) → length (caller_tasks x) ≤ length (caller_answers x)
+all_answered tasks callers c (caller.Cpu looks) have at ended = omega arith
+all_answered tasks callers c (caller.Agent a) have at ended =
+    elim (slice_get_cases a.tasks (length a.answers)).1 [
+      | inr past ↦ past.0
+      | inl here ↦
+          absurd
+          (ended c (length a.answers) here.0 (rw (have c a at) here.2)
+          (rw (answers_of_caller callers c (caller.Agent a) at) (slice_get_past a.answers (length a.answers) (omega arith))))
+    ]
+
+pub locks_ended : (g : GeometryData) (first : List Gpi) (words : List ℕ) (callers : List Caller) (h : List Entry) (tasks : List (List Task)) → Stands g first words callers h → HaveTasks tasks callers
+    → ((d k : ℕ) (t : Task) → task_at tasks d k ≡ Some t → answer_at (map caller_answers callers) d k ≡ None → ⊥) → (n : ℕ) → n < 128 → lock_bit words n ≡ 0
+locks_ended g first words callers h tasks stands have ended n below =
     stands.locks n below
     ∙ count_none (holds n) callers
-    (λ d x there.
-    holds_none n g x (made_at_place g first words callers d x stands.shape there)
-    (subst (λ (z : Caller). caller_left z ≡ 0) (get_or_from_slice_get callers d x x there) (all d x (slice_get_within callers d x there))))
+    (λ d x there. holds_none n g x (made_at_place g first words callers d x stands.shape there) (all_answered tasks callers d x have there ended))
+
+-- ---- causes
+
+causes_told : (g : GeometryData) (callers : List Caller) (tasks : List (List Task)) → HaveTasks tasks callers → AreMade g callers → (c k : ℕ) (t : Task) (told : Answer) → task_at tasks c k ≡ Some t
+    → answer_at (map caller_answers callers) c k ≡ Some told → HasCause g t told
+causes_told g callers tasks have made c k t told asked answered =
+    let own = answered_at callers c k told answered in
+    let is = made c own.0 own.1 in
+    let task : slice_get own.0.tasks k ≡ Some t = rw (have c own.0 own.1) at asked in
+    subst (λ (v : GeometryData). HasCause v t told) is.0 (calls_cause own.0.geometry c 0 k own.0.tasks own.0.answers is.3.calls t told is.3.answered task own.2)
+
+-- ---- facts over plain data
+
+pub fits_history : (g : GeometryData) (first : List Gpi) (words : List ℕ) (callers : List Caller) (h : List Entry) (tasks : List (List Task)) → Stands g first words callers h → HaveTasks tasks callers → AreMade g callers
+    → length tasks ≡ length callers → FitsHistory g first tasks (map caller_answers callers) words h
+fits_history g first words callers h tasks stands have made count =
+    let whole : length (state_after (start first) h).map ≡ space_granules g.setup = state_length (start first) h ∙ stands.shape.granules in
+    record {
+      many = length-map callers caller_answers ∙ sym count;
+      size = stands.shape.size;
+      legal = made_legal g first callers h tasks stands.told have made stands.shape.granules;
+      calls = made_calls g first callers h tasks stands.told have made count;
+      causes = causes_told g callers tasks have made;
+      counts = counts_told g first words callers h tasks stands have;
+      worn = worn_told g first words callers h tasks stands have made;
+      undisturbed = stands.undisturbed;
+      alone = alone_told g first words callers h stands made;
+      tables = tables_told g words (state_after (start first) h).map stands.shape.geometry stands.shape.size whole stands.tables;
+      canonical = canonical_told g words (state_after (start first) h).map stands.shape.geometry whole stands.tables;
+      generations = generations_told g first words callers h stands;
+      ended = locks_ended g first words callers h tasks stands have;
+      duty = stands.idle.duty;
+      lines = stands.idle.lines;
+    }
+
+-- ---- the trace of a schedule
+
+-- the callers at the end are those of the scripts
+script_at : (s : Scenario) (c : ℕ) (x : Caller) → slice_get (played s).callers c ≡ Some x → (own : Script) × (slice_get s.scripts c ≡ Some own) × (agent_tasks x ≡ script_tasks own)
+script_at s c x at =
+    let left : map agent_tasks (played s).callers ≡ map script_tasks s.scripts = turns_leave agent_tasks (opening_of s) (turns_in s) took_tasks ∙ opening_tasks (geometry_of s) s.scripts in
+    let there : option_map script_tasks (slice_get s.scripts c) ≡ Some (agent_tasks x) =
+    sym (slice_get-map script_tasks s.scripts c) ∙ ap (λ (xs : List (Option (List Task))). slice_get xs c) (sym left) ∙ slice_get-map agent_tasks (played s).callers c ∙ ap (option_map agent_tasks) at in
+    let own = some_mapped script_tasks (slice_get s.scripts c) (agent_tasks x) there in
+    (own.0, own.1, sym own.2)
+
+-- a processor has no events
+no_events : (c : ℕ) (trace : List TraceEvent) → All (λ d. d ≢ c) (map (λ (e : TraceEvent). e.caller) trace) → events_of c trace ≡ []
+no_events c [] none = refl
+no_events c (e ∷ trace) none =
+    rw (ne_eqb e.caller c (All-head (λ d. d ≢ c) e.caller (map (λ (x : TraceEvent). x.caller) trace) none))
+    (no_events c trace (All-tail (λ d. d ≢ c) e.caller (map (λ (x : TraceEvent). x.caller) trace) none))
+
+opening_cpu : (g : GeometryData) (scripts : List Script) (c : ℕ) (looks : List Look) → slice_get scripts c ≡ Some (script.Cpu looks) → slice_get (map (caller_of g) scripts) c ≡ Some (caller.Cpu (length looks))
+opening_cpu g scripts c looks at = slice_get-map (caller_of g) scripts c ∙ ap (option_map (caller_of g)) at
+
+own_answers : (answers own : List Answer) (o : Option (List Answer)) → o ≡ Some answers → o ≡ Some own → own ≡ answers
+own_answers answers own o is given = let both : Some own ≡ Some answers = sym given ∙ is in cc
+
+follows_of : (s : Scenario) (c : ℕ) (own : Script) (x : Caller) → StandsFor (first_map s) (opening_of s) [] → AreMade (geometry_of s) (played s).callers → slice_get s.scripts c ≡ Some own → slice_get (played s).callers c ≡ Some x
+    → agent_tasks x ≡ script_tasks own → FollowsScript (geometry_of s) c own (caller_answers x) (events_of c (played_trace s))
+unfolding script_tasks
+follows_of s c (script.Agent asks) (caller.Agent a) opening made given at same =
+    let is = made c a at in
+    let tasks : a.tasks ≡ map task_of_ask asks = cc in
+    subst (λ (ts : List Task). Follows (geometry_of s) c ts a.answers (events_of c (played_trace s))) tasks
+    (subst (λ (g : GeometryData). Follows g c a.tasks a.answers (events_of c (played_trace s))) is.0
+    (walked_follows c a (events_of c (played_trace s)) is.1 (played_walked s c a opening at)))
+follows_of s c (script.Agent asks) (caller.Cpu looks) opening made given at same = absurd cc
+follows_of s c (script.Cpu looks) (caller.Agent a) opening made given at same = absurd cc
+follows_of s c (script.Cpu looks) (caller.Cpu n) opening made given at same =
+    (refl, no_events c (played_trace s) (done_stays (opening_of s) c (turns_in s) (Some (caller.Cpu (length looks))) (opening_cpu (geometry_of s) s.scripts c looks given) refl).0)
+
+-- a caller that has no next act at the end has ended
+has_no_next : (a : AgentData) → IsAgent a → next_of a ≡ None → has_ended a ≡ true
+has_no_next a is none = elim (cases_Bool (has_ended a)) [ inl ended ↦ ended | inr other ↦ absurd (let there = next_there a is in let both : is_some (next_of a) ≡ true = there ∙ ap not other in let no : is_some {T = Act} None ≡ true = subst (λ (o : Option Act). is_some o ≡ true) none both in cc) ]
+
+ended_of : (s : Scenario) (c : ℕ) (own : Script) (x : Caller) → StandsFor (first_map s) (opening_of s) [] → AreMade (geometry_of s) (played s).callers → slice_get (played s).callers c ≡ Some x
+    → agent_tasks x ≡ script_tasks own → caller_next x ≡ None → HasEnded (geometry_of s) c (Some own) (caller_answers x) (events_of c (played_trace s))
+unfolding script_tasks
+ended_of s c (script.Agent asks) (caller.Agent a) opening made at same none =
+    let is = made c a at in
+    let tasks : a.tasks ≡ map task_of_ask asks = cc in
+    elim (walked_ended c a (events_of c (played_trace s)) is.1 (played_walked s c a opening at) (has_no_next a is.1 none)) [
+      | inl all ↦ inl (all ∙ ap length tasks ∙ length-map asks task_of_ask)
+      | inr stopped ↦
+          inr
+          (subst (λ (ts : List Task). HasStopped (geometry_of s) c ts a.answers (events_of c (played_trace s))) tasks
+          (subst (λ (g : GeometryData). HasStopped g c a.tasks a.answers (events_of c (played_trace s))) is.0 stopped))
+    ]
+ended_of s c (script.Agent asks) (caller.Cpu looks) opening made at same none = absurd cc
+ended_of s c (script.Cpu looks) x opening made at same none = tt
+
+answers_given : (callers : List Caller) (c : ℕ) (x : Caller) → slice_get callers c ≡ Some x → answers_by (map caller_answers callers) (slice_get (map caller_answers callers) c) ≡ caller_answers x
+answers_given callers c x at = ap (answers_by (map caller_answers callers)) (answers_of_caller callers c x at)
+
+ends_of : (s : Scenario) (c : ℕ) (o : Option Caller) → StandsFor (first_map s) (opening_of s) [] → AreMade (geometry_of s) (played s).callers → slice_get (played s).callers c ≡ o → IsDone o
+    → HasEnded (geometry_of s) c (slice_get s.scripts c) (answers_by (map caller_answers (played s).callers) (slice_get (map caller_answers (played s).callers) c)) (events_of c (played_trace s))
+ends_of s c (Some x) opening made at done =
+    let own = script_at s c x at in
+    subst (λ (o : Option Script). HasEnded (geometry_of s) c o (answers_by (map caller_answers (played s).callers) (slice_get (map caller_answers (played s).callers) c)) (events_of c (played_trace s))) (sym own.1)
+    (subst (λ (answers : List Answer). HasEnded (geometry_of s) c (Some own.0) answers (events_of c (played_trace s))) (sym (answers_given (played s).callers c x at))
+    (ended_of s c own.0 x opening made at own.2 done))
+ends_of s c None opening made at done =
+    let count : length s.scripts ≡ length (played s).callers = sym (length-map s.scripts tasks_of) ∙ many_tasks s in
+    let none : slice_get s.scripts c ≡ None =
+    elim (slice_get_cases (played s).callers c).1 [
+      | inl here ↦ absurd (let both : Some here.0 ≡ None = sym here.2 ∙ at in cc)
+      | inr past ↦ slice_get_past s.scripts c (let high = past.0 in omega (arith, high, count))
+    ] in
+    subst (λ (o : Option Script). HasEnded (geometry_of s) c o (answers_by (map caller_answers (played s).callers) (slice_get (map caller_answers (played s).callers) c)) (events_of c (played_trace s))) (sym none) tt
+
+pub is_trace : (s : Scenario) → StandsFor (first_map s) (opening_of s) [] → AreMade (geometry_of s) (played s).callers
+    → IsTrace (geometry_of s) s.scripts (first_words s) (turns_in s) (played_trace s) (map caller_answers (played s).callers) (played s).words
+is_trace s opening made = record {
+  callers = subst (λ (n : ℕ). All (λ (e : TraceEvent). e.caller < n) (played_trace s)) (length-map s.scripts (caller_of (geometry_of s))) (trace_known (opening_of s) (turns_in s));
+  turned = turns_taken _ (opening_of s) (turns_in s) (λ c o at done. ends_of s c o opening made at done);
+  answered = trace_answered (first_map s) (opening_of s) [] (turns_in s) opening;
+  left = trace_words (opening_of s) (turns_in s);
+  follows = λ c own answers given answered.
+      let count : length s.scripts ≡ length (played s).callers = sym (length-map s.scripts tasks_of) ∙ many_tasks s in
+      elim (slice_get_cases (played s).callers c).1 [
+        | inl here ↦
+            (let there = script_at s c here.0 here.2 in
+            let same : there.0 ≡ own = let both : Some there.0 ≡ Some own = sym there.1 ∙ given in cc in
+            let is : answers ≡ caller_answers here.0 = own_answers (caller_answers here.0) answers _ (answers_of_caller (played s).callers c here.0 here.2) answered in
+            subst (λ (list : List Answer). FollowsScript (geometry_of s) c own list (events_of c (played_trace s))) (sym is)
+            (follows_of s c own here.0 opening made given here.2 (subst (λ (x : Script). agent_tasks here.0 ≡ script_tasks x) same there.2)))
+        | inr past ↦ absurd (let high = past.0 in let low = slice_get_within s.scripts c own given in omega (arith, high, low, count))
+      ];
+}
+
+opening_holds : (n : ℕ) (g : GeometryData) (scripts : List Script) → count_by (holds n) (map (caller_of g) scripts) ≡ 0
+opening_holds n g [] = refl
+opening_holds n g (script.Agent asks ∷ scripts) =
+    let counted : count_by (holds n) (map (caller_of g) (script.Agent asks ∷ scripts)) ≡ 0 + count_by (holds n) (map (caller_of g) scripts) = sum_by-cons (λ z. one (holds n z)) (caller.Agent (fresh g (map task_of_ask asks))) (map (caller_of g) scripts) in
+    omega (arith, counted, opening_holds n g scripts)
+opening_holds n g (script.Cpu looks ∷ scripts) =
+    let counted : count_by (holds n) (map (caller_of g) (script.Cpu looks ∷ scripts)) ≡ 0 + count_by (holds n) (map (caller_of g) scripts) = sum_by-cons (λ z. one (holds n z)) (caller.Cpu (length looks)) (map (caller_of g) scripts) in
+    omega (arith, counted, opening_holds n g scripts)
 
 -- ---- the whole
 
-pub run_told : (s : Scenario) → StandsFor (first_map s) (opening_of s) [] → StandsFor (first_map s) (played s) (played_history s) → TellsRun s (played s) (played_history s)
-run_told s opening played_so =
-    let stands : Stands (geometry_of s) (first_map s) (played s).words (played s).callers (played_history s) =
-    subst (λ (g : GeometryData). Stands g (first_map s) (played s).words (played s).callers (played_history s)) (turns_geometry (opening_of s) (turns_in s)) played_so in
-    let have = have_tasks s in
-    let count : length (state_after (start (first_map s)) (played_history s)).map ≡ space_granules s.setup = state_length (start (first_map s)) (played_history s) ∙ stands.shape.granules in
+pub is_run : (s : Scenario) → StandsFor (first_map s) (opening_of s) [] → IsRun s (outcome_of (played s)) (played_trace s)
+is_run s opening =
+    let stands_so = turns_stand (first_map s) (opening_of s) [] (turns_in s) opening in
+    let stands : Stands (geometry_of s) (first_map s) (played s).words (played s).callers (history_of (played_trace s)) =
+    subst (λ (h : List Entry). Stands (geometry_of s) (first_map s) (played s).words (played s).callers h) (sym (trace_told (opening_of s) (turns_in s)))
+    (subst (λ (g : GeometryData). Stands g (first_map s) (played s).words (played s).callers (told_in (opening_of s) (turns_in s))) (turns_geometry (opening_of s) (turns_in s)) stands_so) in
+    let made : AreMade (geometry_of s) (played s).callers = λ c a at.
+    (let is = made_at_place (geometry_of s) (first_map s) (played s).words (played s).callers c (caller.Agent a) stands.shape at in
+    (is.0, is.1, events_of c (played_trace s), played_walked s c a opening at)) in
     record {
-      scripts = λ c a at. scripts_walked s c a opening at;
-      legal = made_legal (geometry_of s) (first_map s) (played s).callers (played_history s) (map tasks_of s.scripts) stands.told have (are_made (geometry_of s) (played s).callers stands.shape.made) stands.shape.granules;
-      calls = made_calls (geometry_of s) (first_map s) (played s).callers (played_history s) (map tasks_of s.scripts) stands.told have (are_made (geometry_of s) (played s).callers stands.shape.made) (many_tasks s);
-      counts = counts_told (geometry_of s) (first_map s) (played s).words (played s).callers (played_history s) (map tasks_of s.scripts) stands have;
-      undisturbed = stands.undisturbed;
-      alone = stands.alone;
-      meaning = stands.tables;
-      covers = means_covers (geometry_of s) (played s).words (state_after (start (first_map s)) (played_history s)).map stands.shape.geometry count stands.tables;
-      canonical = means_canonical (geometry_of s) (played s).words (state_after (start (first_map s)) (played_history s)).map stands.shape.geometry count stands.tables;
-      generations = generations_told (geometry_of s) (first_map s) (played s).words (played s).callers (played_history s) stands;
-      locks = stands.locks;
-      ended = locks_ended (geometry_of s) (first_map s) (played s).words (played s).callers (played_history s) stands;
+      geometry = turns_geometry (opening_of s) (turns_in s);
+      turns = is_trace s opening made;
+      fits = fits_history (geometry_of s) (first_map s) (played s).words (played s).callers (history_of (played_trace s)) (map tasks_of s.scripts) stands (have_tasks s) made (many_tasks s);
+      locks = λ n low.
+          let counts = trace_counts n (first_map s) (opening_of s) [] (turns_in s) low opening in
+          let free = opening.locks n low in
+          let none = opening_holds n (geometry_of s) s.scripts in
+          omega (arith, counts, free, none);
     }
+
+pub run_left : {E : Type 0} (s : Scenario) (r : Result Outcome E) → StandsFor (first_map s) (opening_of s) [] → IfOk r (λ o. o ≡ outcome_of (played s)) → IfOk r (λ o. IsRun s o (played_trace s))
+run_left s (Ok o) opening left = subst (λ (x : Outcome). IsRun s x (played_trace s)) (sym left) (is_run s opening)
+run_left s (Err e) opening left = tt

@@ -1,9 +1,9 @@
 -- The facts that stand between any two acts.
-use Rattle.std.specs.Prelude.{◌≡◌, ℕ, List, length, slice_get, Some}
+use Rattle.std.specs.Prelude.{◌≡◌, ℕ, ◌<◌, List, length, slice_get, slice_index, Some}
 use Rattle.std.specs.List.{All}
 use Rattle.gpi_values.specs.declared.gpi.Gpi.{Gpi}
 use Rattle.gpt_descriptors.specs.Sizes.{space_granules}
-use Rattle.gpt_descriptors.specs.Places.{GeometryData, IsGeometry, word_count}
+use Rattle.gpt_descriptors.specs.Places.{GeometryData, IsGeometry, Duty, Line, place_of, l1_words, word_count}
 use Rattle.history.specs.declared.entry.Entry.{Entry}
 use Rattle.history.specs.States.{start, state_after}
 use Rattle.delegate_ops.specs.Agents.{IsAgent}
@@ -32,6 +32,11 @@ pub record HasShape (g : GeometryData) (first : List Gpi) (words : List ℕ) (ca
   pub granules : length first ≡ space_granules g.setup
   pub made : All (IsMade g) callers
 
+-- duty words and lines aren't used yet
+pub record AreIdle (g : GeometryData) (words : List ℕ) : Type 0 where
+  pub duty : (cpu : ℕ) → cpu < g.cpus → slice_index words (place_of g (Duty cpu)) ≡ 0
+  pub lines : (i : ℕ) → i < l1_words g → slice_index words (place_of g (Line i)) ≡ 0
+
 -- Words and callers stand for a history from a first map.
 pub record Stands (g : GeometryData) (first : List Gpi) (words : List ℕ) (callers : List Caller) (h : List Entry) : Type 0 where
   pub shape : HasShape g first words callers
@@ -44,3 +49,4 @@ pub record Stands (g : GeometryData) (first : List Gpi) (words : List ℕ) (call
   pub alone : HoldersAreAlone g.setup callers h
   pub counted : AnswersCount g callers h
   pub told : Tells first callers h
+  pub idle : AreIdle g words

@@ -3,7 +3,7 @@ use Rattle.std.specs.Prelude.{◌≡◌, ℕ, ◌*◌, ◌<◌, List, length, sl
 use Rattle.gpi_values.specs.declared.gpi.Gpi.{Gpi}
 use Rattle.gpt_descriptors.specs.declared.size.Size.{Size}
 use Rattle.gpt_descriptors.specs.Sizes.{space_granules}
-use Rattle.gpt_descriptors.specs.Places.{GeometryData, IsGeometry, Lock, place_of, word_count, blocks_in_region}
+use Rattle.gpt_descriptors.specs.Places.{GeometryData, IsGeometry, Lock, Duty, Line, place_of, l1_words, word_count, blocks_in_region}
 use Rattle.delegate_ops.specs.Agents.{IsAgent, fresh}
 use Rattle.core_machine.specs.declared.caller.Caller.{Caller}
 use Rattle.core_machine.specs.declared.caller.Caller.TheVariants as caller
@@ -22,4 +22,6 @@ pub record AreStarting (g : GeometryData) (first : List Gpi) (words : List ℕ) 
   pub free : (n : ℕ) → n < 2 → slice_index words (place_of g (Lock n)) ≡ 0
   pub granules : length first ≡ space_granules g.setup
   pub tables : MeansMap g words first
+  pub duty : (cpu : ℕ) → cpu < g.cpus → slice_index words (place_of g (Duty cpu)) ≡ 0
+  pub lines : (i : ℕ) → i < l1_words g → slice_index words (place_of g (Line i)) ≡ 0
   pub generations : (y : Size) (region : ℕ) → region < blocks_in_region y * g.setup.gigabytes → generation_word g words y region ≡ g.setup.first

@@ -11,6 +11,6 @@ use Rattle.core_machine.specs.Facts.{FitsHistory}
 -- bit is set where its lock was taken and not released.
 pub record IsRun (s : Scenario) (o : Outcome) (trace : List TraceEvent) : Type 0 where
   pub geometry : o.geometry ≡ geometry_of s
-  pub trace : IsTrace (geometry_of s) s.scripts (first_words s) (turns_in s) trace o.answers o.words
+  pub turns : IsTrace (geometry_of s) s.scripts (first_words s) (turns_in s) trace o.answers o.words
   pub fits : FitsHistory (geometry_of s) (first_map s) (map tasks_of s.scripts) o.answers o.words (history_of trace)
   pub locks : (n : ℕ) → n < 128 → lock_bit o.words n + count_by (releases n) trace ≡ count_by (takes n) trace

@@ -3,7 +3,8 @@ ghost use Rattle.std.specs.List.{All};
 ghost use Rattle.gpi_values.specs.declared.gpi.Gpi.{Gpi};
 ghost use Rattle.history.specs.declared.entry.Entry.{Entry};
 ghost use Rattle.core_machine.specs.InnerOpening.{IsFresh, AreStarting};
-ghost use Rattle.core_machine.specs.InnerMachine.{StandsFor, after_turn, turn_told};
+ghost use Rattle.core_machine.specs.InnerMachine.{StandsFor, after_turn, turn_told, MachineData};
+ghost use Rattle.delegate_ops.specs.Agents.{fresh};
 
 use crate::caller::Caller;
 use gpt_descriptors::Geometry;
@@ -19,7 +20,6 @@ pub struct Machine<W: Words> {
 }
 
 impl<W: Words> Model for Machine<W> {
-    ghost use Rattle.core_machine.specs.InnerMachine.{MachineData};
 
     ghost Value = { MachineData };
 

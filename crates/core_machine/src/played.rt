@@ -4,8 +4,9 @@ ghost use Rattle.scenario_text.specs.Spelling.{WellFormed};
 ghost use Rattle.table_build.specs.Built.{tables_of};
 ghost use Rattle.core_machine.specs.InnerCallers.{caller_answers};
 ghost use Rattle.core_machine.specs.InnerMachine.{StandsFor};
-ghost use Rattle.core_machine.specs.InnerPlay.{IsAccepted, geometry_of, is_cpu, opening_of, first_map, played, played_history, outcome_of, AreAnswersOf};
-ghost use Rattle.core_machine.specs.Run.{TellsRun};
+ghost use Rattle.core_machine.specs.InnerPlay.{opening_of, played, outcome_of, AreAnswersOf, played_trace};
+ghost use Rattle.core_machine.specs.Scenarios.{IsAccepted, first_map, geometry_of, is_cpu};
+ghost use Rattle.core_machine.specs.Run.{IsRun};
 
 use crate::caller::Caller;
 use crate::calling::callers;
@@ -84,14 +85,14 @@ fn leave(alloc: Global, machine: Machine<PlainWords>) -> Result<Outcome, AllocEr
 }
 
 /// All turns of a scenario's schedule, on its built tables: each gives its caller one act, if it has one.
-/// The outcome is what the trace of the schedule leaves, and tells one legal history, that of the trace. It has all
-/// shared words, and no caller has more answers than calls.
+/// The outcome is what the trace of the schedule leaves, and is that of one legal history, the trace's. It has
+/// all shared words, and no caller has more answers than calls.
 pub fn play(alloc: Global, scenario: &Scenario, tables: Tables) -> Result<Outcome, AllocError>
     requires wellformed { WellFormed scenario.now }
     requires accepted { IsAccepted scenario.now }
     requires built { tables ≡ tables_of scenario.now.setup scenario.now.regions }
     ensures trace { IfOk result (λ outcome. outcome ≡ outcome_of (played scenario.now)) }
-    ensures tells { IfOk result (λ outcome. TellsRun scenario.now (played scenario.now) (played_history scenario.now)) }
+    ensures run { IfOk result (λ outcome. IsRun scenario.now outcome (played_trace scenario.now)) }
     ensures size { IfOk result (λ outcome. length outcome.words ≡ word_count outcome.geometry) }
     ensures answered { IfOk result (λ outcome. AreAnswersOf scenario.now.scripts outcome.answers) }
 {

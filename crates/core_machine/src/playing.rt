@@ -3,7 +3,8 @@ ghost use Rattle.std.specs.List.{All, flat_map, range_with_len};
 ghost use Rattle.gpi_values.specs.declared.gpi.Gpi.{Gpi};
 ghost use Rattle.history.specs.declared.entry.Entry.{Entry};
 ghost use Rattle.core_machine.specs.InnerMachine.{StandsFor, after_turns};
-ghost use Rattle.core_machine.specs.InnerPlay.{round_turns, slot_turns, NamesCaller};
+ghost use Rattle.core_machine.specs.InnerPlay.{NamesCaller};
+ghost use Rattle.core_machine.specs.Scenarios.{round_turns, slot_turns};
 
 use crate::machine::Machine;
 use scenario_text::Slot;

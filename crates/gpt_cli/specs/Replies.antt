@@ -34,7 +34,7 @@ usage = record { status = 2; text = usage_text }
 -- a call has no answer
 abbrev pub has_left : List Script → List (List Answer) → Bool
 has_left [] answers = false
-has_left (s ∷ scripts) [] = false
+has_left (s ∷ scripts) [] = nat_lt 0 (length (script_calls s)) || has_left scripts []
 has_left (s ∷ scripts) (own ∷ answers) = nat_lt (length own) (length (script_calls s)) || has_left scripts answers
 
 -- The report of what a run left, with status 6 exactly where a call has no answer.

@@ -2,13 +2,13 @@ use Rattle.std.proofs.Common.{◌≡◌, List, [], length, sym, ap, ◌∙◌, s
 use Rattle.std.specs.Prelude.{IfOk}
 use Rattle.std.specs.List.{All, flat_map}
 use Rattle.scenario_text.specs.declared.scenario.Slot.{Slot}
-use Rattle.core_machine.specs.InnerMachine.{MachineData, StandsFor, after_turns}
-use Rattle.core_machine.specs.InnerPlay.{NamesCaller, played, outcome_of}
-use Rattle.core_machine.proofs.PlayLemmas.{names_at, played_is, played_stands, always}
-use Rattle.core_machine.proofs.RunLemmas.{run_told}
+use Rattle.core_machine.specs.InnerMachine.{MachineData, StandsFor, after_turns, told_in}
+use Rattle.core_machine.specs.InnerPlay.{NamesCaller, played, outcome_of, opening_of}
+use Rattle.core_machine.proofs.PlayLemmas.{names_at, played_is, played_stands}
+use Rattle.core_machine.proofs.RunLemmas.{run_left}
 use Rattle.core_machine.proofs.FitLemmas.{size_of, answers_of}
 use Rattle.core_machine.proofs.played.play.Goals as goal
-use Rattle.core_machine.specs.Scenarios.{first_map, slot_turns}
+use Rattle.core_machine.specs.Scenarios.{first_map, slot_turns, turns_in}
 
 pub schedule-requires-clause-names : goal.schedule-requires-clause-names
 schedule-requires-clause-names c =
@@ -22,18 +22,17 @@ returns-clause-trace c =
     (c.schedule.ensures ∙ ap (λ (slots : List Slot). after_turns c.in_ok-machine.machine (flat_map (slot_turns (length c.in_ok-machine.machine.callers)) slots)) c.as_slice.ensures))
     c.leave.ensures
 
-pub returns-clause-tells : goal.returns-clause-tells
-returns-clause-tells c =
-    always (TellsRun c.args.scenario.now (played c.args.scenario.now) (played_history c.args.scenario.now)) c.leave.result
-    (run_told c.args.scenario.now (subst (λ (m : MachineData). StandsFor (first_map c.args.scenario.now) m []) c.in_ok-machine.ensures.machine c.in_ok-machine.ensures.stands)
-    (played_stands c.args.scenario.now c.in_ok-machine.machine c.in_ok-machine.ensures.machine c.in_ok-machine.ensures.stands))
+pub returns-clause-run : goal.returns-clause-run
+returns-clause-run c =
+    run_left c.args.scenario.now c.leave.result (subst (λ (m : MachineData). StandsFor (first_map c.args.scenario.now) m []) c.in_ok-machine.ensures.machine c.in_ok-machine.ensures.stands)
+    (returns-clause-trace c)
 
 pub returns-clause-size : goal.returns-clause-size
 returns-clause-size c =
-    size_of (played c.args.scenario.now) (first_map c.args.scenario.now) (played_history c.args.scenario.now) c.leave.result
+    size_of (played c.args.scenario.now) (first_map c.args.scenario.now) (told_in (opening_of c.args.scenario.now) (turns_in c.args.scenario.now)) c.leave.result
     (played_stands c.args.scenario.now c.in_ok-machine.machine c.in_ok-machine.ensures.machine c.in_ok-machine.ensures.stands) (returns-clause-trace c)
 
 pub returns-clause-answered : goal.returns-clause-answered
 returns-clause-answered c =
-    answers_of c.args.scenario.now (first_map c.args.scenario.now) (played_history c.args.scenario.now) c.leave.result
+    answers_of c.args.scenario.now (first_map c.args.scenario.now) (told_in (opening_of c.args.scenario.now) (turns_in c.args.scenario.now)) c.leave.result
     (played_stands c.args.scenario.now c.in_ok-machine.machine c.in_ok-machine.ensures.machine c.in_ok-machine.ensures.stands) (returns-clause-trace c)

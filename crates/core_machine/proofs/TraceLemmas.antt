@@ -1,0 +1,436 @@
+-- The trace of a list of turns: each caller follows its script, each act answers what stands in its word,
+-- the turns without an event are those of callers that have ended, and the lock bits count its locks.
+use Rattle.std.proofs.Common.{◌≡◌, ◌≢◌, ℕ, zero, suc, ◌+◌, ◌-◌, ◌/◌, ◌%◌, ◌^◌, ◌<◌, ◌≤◌, ◌⊎◌, ◌++◌, ◌∷◌, [], List, Bool, true, false, ◌&&◌, eqb, map, length, set, Option, Some, None, refl, sym, ap, ◌∙◌, subst, arith, inl, inr, append_assoc, append-nil}
+use Rattle.std.specs.Prelude.{slice_get, slice_index, option_and_then, MatchOption}
+use Rattle.std.specs.Int.{bit_not, w64}
+use Rattle.std.specs.Int.Bits.{bit_and, bit_or}
+use Rattle.std.specs.List.{All, count_by, filter, flat_map}
+use Rattle.std.proofs.Math.Pow.{pow-lt}
+use Rattle.std.proofs.lemmas.Bool.{cases_Bool, cases_eq, cases_order, eqb-true, eq-eqb, ne_eqb}
+use Rattle.std.proofs.lemmas.List.{map-append, get_or-set_other}
+use Rattle.std.proofs.lemmas.List.Elements.{filter-append, All-nil, All-cons, All-append}
+use Rattle.std.proofs.lemmas.List.Concat.{flat_map-cons}
+use Rattle.std.proofs.lemmas.Grind.{flat_map-append}
+use Rattle.std.proofs.lemmas.Option.{slice_get_within}
+use Rattle.std.proofs.lemmas.List.Sums.{sum_by-append, sum_by-cons}
+use Rattle.gpi_values.specs.declared.gpi.Gpi.{Gpi}
+use Rattle.gpt_descriptors.specs.declared.size.Size.{Size}
+use Rattle.gpt_descriptors.specs.Sizes.{size_bytes}
+use Rattle.gpt_descriptors.specs.Places.{GeometryData, Generation, Level1, place_of, gen_place_of, l1_place_of}
+use Rattle.invalidate.specs.Generations.{gen_load_of, gen_raise_of}
+use Rattle.history.specs.declared.call.Task.{Task}
+use Rattle.shared_words.specs.declared.act.Act.{Act}
+use Rattle.shared_words.specs.declared.act.Act.TheVariants as act
+use Rattle.shared_words.specs.Acts.{place_in, answer_of, after_act}
+use Rattle.bit_locks.specs.Locks.{lock_bit, bit_with, take_act, release_act}
+use Rattle.history.specs.declared.entry.Entry.{Entry}
+use Rattle.scenario_text.specs.declared.scenario.Scenario.{Scenario}
+use Rattle.scenario_text.specs.declared.scenario.Script.{Script}
+use Rattle.scenario_text.specs.declared.scenario.Script.TheVariants as script
+use Rattle.delegate_ops.specs.declared.stage.Stage.{Stage}
+use Rattle.delegate_ops.specs.declared.stage.Stage.TheVariants as stage
+use Rattle.delegate_ops.specs.Agents.{AgentData, fresh, task_of, took_of, HasActs, act_at}
+use Rattle.delegate_ops.proofs.ScriptLemmas.{fresh_walked, step_walks}
+use Rattle.core_machine.specs.declared.caller.Caller.{Caller}
+use Rattle.core_machine.specs.declared.caller.Caller.TheVariants as caller
+use Rattle.core_machine.proofs.ListLemmas.{one, get_set, get_set_other, count_set}
+use Rattle.core_machine.proofs.OthersLemmas.{made_at_place, index_at, generation_low}
+use Rattle.core_machine.proofs.LawLemmas.{one_act}
+use Rattle.core_machine.proofs.MachineLemmas.{turn_stands, turns_length}
+use Rattle.core_machine.proofs.LockLemmas.{holder_bit, take_free, take_held, release_held}
+use Rattle.core_machine.proofs.ChangeActs.{locks_stay}
+use Rattle.core_machine.proofs.ActLemmas.{Acting, lock_of_task, low_of}
+use Rattle.delegate_ops.proofs.AgentLemmas.{at_stage}
+use Rattle.delegate_ops.proofs.ScriptLemmas.{some_mapped}
+use Rattle.core_machine.specs.Trace.{AreAnswered, TakesTurns, TraceEvent, events_of, history_of, words_after, releases, releases_by, takes, takes_by}
+use Rattle.delegate_ops.specs.Script.{CallEvent, lock_bit_of}
+use Rattle.delegate_ops.specs.InnerScript.{HasWalked}
+use Rattle.core_machine.specs.InnerInvariant.{IsMade, Stands}
+use Rattle.core_machine.specs.InnerMachine.{MachineData, StandsFor, after_act_of, after_turn, after_turn_of, after_turns, event_of, told_in, told_of, trace_of, turn_event_of, turn_told, turn_told_of}
+use Rattle.core_machine.specs.InnerCallers.{caller_next, caller_took, made_by}
+use Rattle.core_machine.specs.InnerPlay.{caller_of, opening_of, played, played_trace}
+use Rattle.core_machine.specs.Scenarios.{first_map, geometry_of, task_of_ask, turns_in}
+use Rattle.delegate_ops.specs.Deciding.{address_of, generation_in}
+use Rattle.delegate_ops.specs.Changing.{changed_word}
+use Rattle.core_machine.specs.InnerLocks.{holds}
+
+-- ---- each caller's events
+
+of_append : (c : ℕ) (xs ys : List TraceEvent) → events_of c (xs ++ ys) ≡ events_of c xs ++ events_of c ys
+of_append c xs ys =
+    ap (map (λ (e : TraceEvent). e.event)) (filter-append (λ e. eqb e.caller c) xs ys)
+    ∙ map-append (λ (e : TraceEvent). e.event) (filter (λ e. eqb e.caller c) xs) (filter (λ e. eqb e.caller c) ys)
+
+-- caller c, an agent, goes on from another state by these events of its script
+abbrev GoesOn : ℕ → AgentData → AgentData → List CallEvent → Type 0
+GoesOn c a b events = (before : List CallEvent) → HasWalked c a before → HasWalked c b (before ++ events)
+
+-- where the agent at c comes from
+pub record Comes (m : MachineData) (c : ℕ) (b : AgentData) (events : List CallEvent) : Type 0 where
+  pub from : AgentData
+  pub at : slice_get m.callers c ≡ Some (caller.Agent from)
+  pub goes : GoesOn c from b events
+
+stays_at : (m : MachineData) (c : ℕ) (b : AgentData) → slice_get m.callers c ≡ Some (caller.Agent b) → Comes m c b []
+stays_at m c b at = record { from = b; at = at; goes = λ before walked. subst (HasWalked c b) (sym (append-nil before)) walked }
+
+-- the event of an act
+abbrev made_event : MachineData → ℕ → Caller → Act → CallEvent
+made_event m c x t = record { act = t; old = answer_of t m.words; made = made_by c x (answer_of t m.words) }
+
+-- the agent that made its act
+steps_from : (m : MachineData) (c : ℕ) (x : Caller) (t : Act) (b : AgentData) → slice_get m.callers c ≡ Some x → caller_next x ≡ Some t → IsMade m.geometry x → caller_took x (answer_of t m.words) ≡ caller.Agent b
+    → Comes m c b (made_event m c x t ∷ [])
+steps_from m c (caller.Agent a) t b at next made took =
+    let same : took_of a (answer_of t m.words) ≡ b = cc in
+    record {
+      from = a;
+      at = at;
+      goes = λ before walked. subst (λ (y : AgentData). HasWalked c y (before ++ made_event m c (caller.Agent a) t ∷ [])) same (step_walks c a before t (answer_of t m.words) made.1 walked next);
+    }
+steps_from m c (caller.Cpu looks) t b at next made took = absurd cc
+
+act_comes : (m : MachineData) (c d : ℕ) (x : Caller) (o : Option Act) (b : AgentData) → slice_get m.callers d ≡ Some x → caller_next x ≡ o → IsMade m.geometry x → slice_get (after_act_of m d x o).callers c ≡ Some (caller.Agent b)
+    → Comes m c b (events_of c (event_of m d x o))
+act_comes m c d x None b at next made there = stays_at m c b there
+act_comes m c d x (Some t) b at next made there =
+    elim (get_set m.callers d c (caller_took x (answer_of t m.words)) (caller.Agent b) there) [
+      | inl here ↦
+          rw (eq-eqb d c (sym here.0))
+          (subst (λ (k : ℕ). Comes m c b (made_event m k x t ∷ [])) here.0
+          (steps_from m c x t b (subst (λ (n : ℕ). slice_get m.callers n ≡ Some x) (sym here.0) at) next made here.1))
+      | inr away ↦ rw (ne_eqb d c (λ same. away.0 (sym same))) (stays_at m c b away.1)
+    ]
+
+turn_comes : (first : List Gpi) (m : MachineData) (h : List Entry) (c d : ℕ) (o : Option Caller) (b : AgentData) → StandsFor first m h → slice_get m.callers d ≡ o → slice_get (after_turn_of m d o).callers c ≡ Some (caller.Agent b)
+    → Comes m c b (events_of c (turn_event_of m d o))
+turn_comes first m h c d None b stands at there = stays_at m c b there
+turn_comes first m h c d (Some x) b stands at there =
+    act_comes m c d x (caller_next x) b at refl (made_at_place m.geometry first m.words m.callers d x stands.shape at) there
+
+turns_come : (first : List Gpi) (m : MachineData) (h : List Entry) (turns : List ℕ) (c : ℕ) (b : AgentData) → StandsFor first m h → slice_get (after_turns m turns).callers c ≡ Some (caller.Agent b)
+    → Comes m c b (events_of c (trace_of m turns))
+turns_come first m h [] c b stands there = stays_at m c b there
+turns_come first m h (d ∷ turns) c b stands there =
+    let later = turns_come first (after_turn m d) (h ++ turn_told m d) turns c b (turn_stands first m h d stands) there in
+    let now = turn_comes first m h c d (slice_get m.callers d) later.from stands refl later.at in
+    let whole = of_append c (turn_event_of m d (slice_get m.callers d)) (trace_of (after_turn m d) turns) in
+    record {
+      from = now.from;
+      at = now.at;
+      goes = λ before walked.
+          subst (HasWalked c b) (append_assoc before (events_of c (turn_event_of m d (slice_get m.callers d))) (events_of c (trace_of (after_turn m d) turns)) ∙ ap (λ (es : List CallEvent). before ++ es) (sym whole))
+          (later.goes (before ++ events_of c (turn_event_of m d (slice_get m.callers d))) (now.goes before walked));
+    }
+
+-- an agent of the opening has no events yet
+opening_agent : (g : GeometryData) (scripts : List Script) (c d : ℕ) (a : AgentData) → slice_get (map (caller_of g) scripts) c ≡ Some (caller.Agent a) → HasWalked d a []
+opening_agent g [] c d a at = absurd cc
+opening_agent g (script.Agent asks ∷ scripts) zero d a at = let same : fresh g (map task_of_ask asks) ≡ a = cc in subst (λ (b : AgentData). HasWalked d b []) same (fresh_walked g (map task_of_ask asks) d)
+opening_agent g (script.Cpu looks ∷ scripts) zero d a at = absurd cc
+opening_agent g (s ∷ scripts) (suc c) d a at = opening_agent g scripts c d a at
+
+pub played_walked : (s : Scenario) (c : ℕ) (a : AgentData) → StandsFor (first_map s) (opening_of s) [] → slice_get (played s).callers c ≡ Some (caller.Agent a)
+    → HasWalked c a (events_of c (played_trace s))
+played_walked s c a stands there =
+    let comes = turns_come (first_map s) (opening_of s) [] (turns_in s) c a stands there in
+    comes.goes [] (opening_agent (geometry_of s) s.scripts c c comes.from comes.at)
+
+-- ---- the history
+
+event_told : (m : MachineData) (c : ℕ) (a : Caller) (o : Option Act) → history_of (event_of m c a o) ≡ told_of m c a o
+event_told m c a None = refl
+event_told m c a (Some t) = flat_map-cons (λ (e : TraceEvent). e.event.made) (record { caller = c; event = made_event m c a t }) [] ∙ append-nil (made_by c a (answer_of t m.words))
+
+turn_event_told : (m : MachineData) (c : ℕ) (o : Option Caller) → history_of (turn_event_of m c o) ≡ turn_told_of m c o
+turn_event_told m c None = refl
+turn_event_told m c (Some a) = event_told m c a (caller_next a)
+
+pub trace_told : (m : MachineData) (turns : List ℕ) → history_of (trace_of m turns) ≡ told_in m turns
+trace_told m [] = refl
+trace_told m (c ∷ turns) =
+    flat_map-append (λ (e : TraceEvent). e.event.made) (turn_event_of m c (slice_get m.callers c)) (trace_of (after_turn m c) turns)
+    ∙ ap (λ (es : List Entry). es ++ history_of (trace_of (after_turn m c) turns)) (turn_event_told m c (slice_get m.callers c))
+    ∙ ap (λ (es : List Entry). turn_told m c ++ es) (trace_told (after_turn m c) turns)
+
+-- ---- words
+
+words_after-append : (words : List ℕ) (xs ys : List TraceEvent) → words_after words (xs ++ ys) ≡ words_after (words_after words xs) ys
+words_after-append words [] ys = refl
+words_after-append words (e ∷ xs) ys = words_after-append (after_act e.event.act words) xs ys
+
+answered-append : (words : List ℕ) (xs ys : List TraceEvent) → AreAnswered words xs → AreAnswered (words_after words xs) ys → AreAnswered words (xs ++ ys)
+answered-append words [] ys first rest = rest
+answered-append words (e ∷ xs) ys first rest = (first.0, first.1, answered-append (after_act e.event.act words) xs ys first.2 rest)
+
+turn_words : (m : MachineData) (c : ℕ) (a : Caller) (o : Option Act) → words_after m.words (event_of m c a o) ≡ (after_act_of m c a o).words
+turn_words m c a None = refl
+turn_words m c a (Some t) = refl
+
+turn_words_of : (m : MachineData) (c : ℕ) (o : Option Caller) → words_after m.words (turn_event_of m c o) ≡ (after_turn_of m c o).words
+turn_words_of m c None = refl
+turn_words_of m c (Some a) = turn_words m c a (caller_next a)
+
+pub trace_words : (m : MachineData) (turns : List ℕ) → (after_turns m turns).words ≡ words_after m.words (trace_of m turns)
+trace_words m [] = refl
+trace_words m (c ∷ turns) =
+    trace_words (after_turn m c) turns
+    ∙ ap (λ (words : List ℕ). words_after words (trace_of (after_turn m c) turns)) (sym (turn_words_of m c (slice_get m.callers c)))
+    ∙ sym (words_after-append m.words (turn_event_of m c (slice_get m.callers c)) (trace_of (after_turn m c) turns))
+
+event_answered : (first : List Gpi) (m : MachineData) (h : List Entry) (c : ℕ) (a : Caller) (o : Option Act) → StandsFor first m h → slice_get m.callers c ≡ Some a → caller_next a ≡ o → AreAnswered m.words (event_of m c a o)
+event_answered first m h c a None stands at next = tt
+event_answered first m h c a (Some t) stands at next = ((one_act m.geometry first m.words m.callers h c a t stands at next).0, refl, tt)
+
+turn_answered : (first : List Gpi) (m : MachineData) (h : List Entry) (c : ℕ) (o : Option Caller) → StandsFor first m h → slice_get m.callers c ≡ o → AreAnswered m.words (turn_event_of m c o)
+turn_answered first m h c None stands at = tt
+turn_answered first m h c (Some a) stands at = event_answered first m h c a (caller_next a) stands at refl
+
+pub trace_answered : (first : List Gpi) (m : MachineData) (h : List Entry) (turns : List ℕ) → StandsFor first m h → AreAnswered m.words (trace_of m turns)
+trace_answered first m h [] stands = tt
+trace_answered first m h (c ∷ turns) stands =
+    answered-append m.words (turn_event_of m c (slice_get m.callers c)) (trace_of (after_turn m c) turns)
+    (turn_answered first m h c (slice_get m.callers c) stands refl)
+    (subst (λ (words : List ℕ). AreAnswered words (trace_of (after_turn m c) turns)) (sym (turn_words_of m c (slice_get m.callers c)))
+    (trace_answered first (after_turn m c) (h ++ turn_told m c) turns (turn_stands first m h c stands)))
+
+-- ---- turns without an event
+
+-- there is no such caller, or it has no next act
+abbrev pub IsDone : Option Caller → Type 0
+IsDone o = MatchOption o (Unit {0}) (λ x. caller_next x ≡ None)
+
+abbrev callers_in : List TraceEvent → List ℕ
+callers_in trace = map (λ (e : TraceEvent). e.caller) trace
+
+-- what a turn of d leaves of a caller that has no next act
+record LeavesDone (m : MachineData) (c d : ℕ) (o : Option Caller) (p : Option Caller) : Type 0 where
+  pub none : All (λ x. x ≢ c) (callers_in (turn_event_of m d p))
+  pub same : slice_get (after_turn_of m d p).callers c ≡ o
+
+no_act : (x : Caller) (t : Act) → IsDone (Some x) → caller_next x ≡ Some t → ⊥
+no_act x t done next = absurd (let both : None ≡ Some t = sym done ∙ next in cc)
+
+leaves_act : (m : MachineData) (c d : ℕ) (o : Option Caller) (y : Caller) (t : Option Act) → slice_get m.callers c ≡ o → IsDone o → slice_get m.callers d ≡ Some y → caller_next y ≡ t
+    → All (λ x. x ≢ c) (callers_in (event_of m d y t)) × (slice_get (after_act_of m d y t).callers c ≡ o)
+leaves_act m c d o y None at done there next = (All-nil (λ x. x ≢ c), at)
+leaves_act m c d o y (Some t) at done there next =
+    elim (cases_eq c d) [
+      | inl same ↦
+          absurd
+          (let here : o ≡ Some y = sym at ∙ ap (slice_get m.callers) same ∙ there in
+          no_act y t (subst IsDone here done) next)
+      | inr apart ↦ (
+        All-cons (λ x. x ≢ c) d [] (λ same. apart (sym same)) (All-nil (λ x. x ≢ c)),
+        get_set_other m.callers d c (caller_took y (answer_of t m.words)) apart ∙ at,
+      )
+    ]
+
+leaves_turn : (m : MachineData) (c d : ℕ) (o p : Option Caller) → slice_get m.callers c ≡ o → IsDone o → slice_get m.callers d ≡ p → LeavesDone m c d o p
+leaves_turn m c d o None at done there = record { none = All-nil (λ x. x ≢ c); same = at }
+leaves_turn m c d o (Some y) at done there = let left = leaves_act m c d o y (caller_next y) at done there refl in record { none = left.0; same = left.1 }
+
+pub done_stays : (m : MachineData) (c : ℕ) (turns : List ℕ) (o : Option Caller) → slice_get m.callers c ≡ o → IsDone o
+    → All (λ x. x ≢ c) (callers_in (trace_of m turns)) × (slice_get (after_turns m turns).callers c ≡ o)
+done_stays m c [] o at done = (All-nil (λ x. x ≢ c), at)
+done_stays m c (d ∷ turns) o at done =
+    let now = leaves_turn m c d o (slice_get m.callers d) at done refl in
+    let later = done_stays (after_turn m d) c turns o now.same done in (
+      subst (All (λ x. x ≢ c)) (sym (map-append (λ (e : TraceEvent). e.caller) (turn_event_of m d (slice_get m.callers d)) (trace_of (after_turn m d) turns)))
+      (All-append (λ x. x ≢ c) (callers_in (turn_event_of m d (slice_get m.callers d))) (callers_in (trace_of (after_turn m d) turns)) now.none later.0),
+      later.1,
+    )
+
+-- a caller that has no next act is as it is at the end
+abbrev Ends : (ℕ → Type 0) → MachineData → List ℕ → Type 0
+Ends ended m turns = (c : ℕ) (o : Option Caller) → slice_get (after_turns m turns).callers c ≡ o → IsDone o → ended c
+
+turned_act : (ended : ℕ → Type 0) (m : MachineData) (c : ℕ) (x : Caller) (t : Option Act) (turns : List ℕ) → slice_get m.callers c ≡ Some x → caller_next x ≡ t
+    → Ends ended (after_act_of m c x t) turns → TakesTurns ended turns (callers_in (trace_of (after_act_of m c x t) turns))
+    → TakesTurns ended (c ∷ turns) (callers_in (event_of m c x t ++ trace_of (after_act_of m c x t) turns))
+turned_act ended m c x None turns at next ends rest =
+    let left = done_stays m c turns (Some x) at next in
+    inr (ends c (Some x) left.1 next, left.0, rest)
+turned_act ended m c x (Some t) turns at next ends rest = inl (callers_in (trace_of (after_act_of m c x (Some t)) turns), refl, rest)
+
+turned_of : (ended : ℕ → Type 0) (m : MachineData) (c : ℕ) (o : Option Caller) (turns : List ℕ) → slice_get m.callers c ≡ o
+    → Ends ended (after_turn_of m c o) turns → TakesTurns ended turns (callers_in (trace_of (after_turn_of m c o) turns))
+    → TakesTurns ended (c ∷ turns) (callers_in (turn_event_of m c o ++ trace_of (after_turn_of m c o) turns))
+turned_of ended m c None turns at ends rest =
+    let left = done_stays m c turns None at tt in
+    inr (ends c None left.1 tt, left.0, rest)
+turned_of ended m c (Some x) turns at ends rest = turned_act ended m c x (caller_next x) turns at refl ends rest
+
+pub turns_taken : (ended : ℕ → Type 0) (m : MachineData) (turns : List ℕ) → Ends ended m turns → TakesTurns ended turns (callers_in (trace_of m turns))
+turns_taken ended m [] ends = refl
+turns_taken ended m (c ∷ turns) ends =
+    turned_of ended m c (slice_get m.callers c) turns refl ends (turns_taken ended (after_turn m c) turns ends)
+
+-- ---- callers
+
+event_known : (m : MachineData) (c : ℕ) (a : Caller) (o : Option Act) → c < length m.callers → All (λ e. e.caller < length m.callers) (event_of m c a o)
+event_known m c a None low = All-nil (λ e. e.caller < length m.callers)
+event_known m c a (Some t) low = All-cons (λ e. e.caller < length m.callers) _ [] low (All-nil (λ e. e.caller < length m.callers))
+
+turn_known : (m : MachineData) (c : ℕ) (o : Option Caller) → slice_get m.callers c ≡ o → All (λ e. e.caller < length m.callers) (turn_event_of m c o)
+turn_known m c None at = All-nil (λ e. e.caller < length m.callers)
+turn_known m c (Some a) at = event_known m c a (caller_next a) (slice_get_within m.callers c a at)
+
+pub trace_known : (m : MachineData) (turns : List ℕ) → All (λ e. e.caller < length m.callers) (trace_of m turns)
+trace_known m [] = All-nil (λ e. e.caller < length m.callers)
+trace_known m (c ∷ turns) =
+    All-append (λ e. e.caller < length m.callers) (turn_event_of m c (slice_get m.callers c)) (trace_of (after_turn m c) turns) (turn_known m c (slice_get m.callers c) refl)
+    (subst (λ (n : ℕ). All (λ (e : TraceEvent). e.caller < n) (trace_of (after_turn m c) turns)) (turns_length m (c ∷ []))
+    (trace_known (after_turn m c) turns))
+
+-- ---- locks
+
+low_power : (k : ℕ) → k < 64 → 2 ^ k ≤ 2 ^ 64 - 1
+low_power k low = let below : 2 ^ k < 2 ^ 64 = pow-lt low in omega (arith, below)
+
+power_one : (i j : ℕ) → 2 ^ i ≡ 2 ^ j → i ≡ j
+power_one i j same =
+    elim (cases_order i j) [
+      | inl equal ↦ equal
+      | inr apart ↦ elim apart [
+        | inl below ↦ absurd (let less : 2 ^ i < 2 ^ j = pow-lt below in omega (arith, same, less))
+        | inr above ↦ absurd (let less : 2 ^ j < 2 ^ i = pow-lt above in omega (arith, same, less))
+      ]
+    ]
+
+-- a lock is told from another by its word and its bit
+bit_of_lock : (n m p : ℕ) (q : Bool) → (n ≡ m → (p ≡ n / 64) × (q ≡ true)) → (n ≢ m → p ≡ n / 64 → n / 64 ≡ m / 64 → q ≡ false) → p ≡ n / 64
+    → (eqb p (m / 64) && q) ≡ eqb n m
+bit_of_lock n m p q same apart place =
+    elim (cases_eq n m) [
+      | inl equal ↦ (let parts = same equal in rw (eq-eqb p (m / 64) (parts.0 ∙ ap (λ (k : ℕ). k / 64) equal), parts.1, eq-eqb n m equal) refl)
+      | inr other ↦ elim (cases_eq (n / 64) (m / 64)) [
+        | inl row ↦ rw (eq-eqb p (m / 64) (place ∙ row), apart other place row, ne_eqb n m other) refl
+        | inr elsewhere ↦ rw (ne_eqb p (m / 64) (λ here. elsewhere (sym place ∙ here)), ne_eqb n m other) refl
+      ]
+    ]
+
+mask_apart : (n m : ℕ) → n ≢ m → n / 64 ≡ m / 64 → 2 ^ (n % 64) ≢ 2 ^ (m % 64)
+mask_apart n m apart row same = apart (let bits : n % 64 ≡ m % 64 = power_one (n % 64) (m % 64) same in omega (arith, row, bits))
+
+free_take : (n m old : ℕ) → bit_and old (2 ^ (n % 64)) ≡ 0 → takes_by m old (take_act (bit_with n)) ≡ eqb n m
+free_take n m old free =
+    bit_of_lock n m (n / 64) (eqb (2 ^ (n % 64)) (2 ^ (m % 64)) && eqb (bit_and old (2 ^ (n % 64))) 0)
+    (λ same. (refl, rw (eq-eqb (2 ^ (n % 64)) (2 ^ (m % 64)) (ap (λ (k : ℕ). 2 ^ (k % 64)) same), eq-eqb (bit_and old (2 ^ (n % 64))) 0 free) refl))
+    (λ apart here row. rw (ne_eqb (2 ^ (n % 64)) (2 ^ (m % 64)) (mask_apart n m apart row)) refl)
+    refl
+
+held_take : (n m old : ℕ) → bit_and old (2 ^ (n % 64)) ≢ 0 → takes_by m old (take_act (bit_with n)) ≡ false
+held_take n m old held =
+    elim (cases_Bool (eqb (n / 64) (m / 64))) [
+      | inr other ↦ rw other refl
+      | inl row ↦ rw row (elim (cases_Bool (eqb (2 ^ (n % 64)) (2 ^ (m % 64)))) [
+        | inr other ↦ rw other refl
+        | inl mask ↦ rw (mask, ne_eqb (bit_and old (2 ^ (n % 64))) 0 held) refl
+      ])
+    ]
+
+released_by : (n m : ℕ) → releases_by m (release_act (bit_with n)) ≡ eqb n m
+released_by n m =
+    bit_of_lock n m (n / 64) (eqb (bit_not w64 (2 ^ (n % 64))) (bit_not w64 (2 ^ (m % 64))))
+    (λ same. (refl, eq-eqb (bit_not w64 (2 ^ (n % 64))) (bit_not w64 (2 ^ (m % 64))) (ap (λ (k : ℕ). bit_not w64 (2 ^ (k % 64))) same)))
+    (λ apart here row.
+    ne_eqb (bit_not w64 (2 ^ (n % 64))) (bit_not w64 (2 ^ (m % 64)))
+    (λ same. mask_apart n m apart row (let low = low_power (n % 64) (omega arith) in let other = low_power (m % 64) (omega arith) in omega (arith, same, low, other))))
+    refl
+
+-- what an act does to the bit of lock m
+abbrev CountsLock : List ℕ → Act → ℕ → Type 0
+CountsLock words t m = lock_bit (after_act t words) m + one (releases_by m t) ≡ lock_bit words m + one (takes_by m (answer_of t words) t)
+
+take_counts : (words : List ℕ) (n m : ℕ) → n / 64 < length words → CountsLock words (take_act (bit_with n)) m
+take_counts words n m within =
+    elim (cases_eq (bit_and (slice_index words (n / 64)) (2 ^ (n % 64))) 0) [
+      | inl free ↦ rw (free_take n m (slice_index words (n / 64)) free) (take_free words n m within free)
+      | inr held ↦ rw (held_take n m (slice_index words (n / 64)) held) (ap (λ (k : ℕ). k + 0) (take_held words n m within held))
+    ]
+
+release_counts : (words : List ℕ) (n m : ℕ) → n / 64 < length words → lock_bit words n ≡ 1 → CountsLock words (release_act (bit_with n)) m
+release_counts words n m within set_bit = rw (released_by n m) (release_held words n m within set_bit)
+
+-- a word that is no lock word is written
+elsewhere_counts : (words : List ℕ) (p v m : ℕ) → 2 ≤ p → m < 128 → lock_bit (set words p v) m + 0 ≡ lock_bit words m + 0
+elsewhere_counts words p v m high low = ap (λ (k : ℕ). k + 0) (locks_stay words p v m high low)
+
+act_counts : (first : List Gpi) (words : List ℕ) (callers : List Caller) (h : List Entry) (c : ℕ) (a : AgentData) (t : Task) (s : Stage) (next : Act) (m : ℕ) → Acting first words callers h c a t s
+    → act_at a.geometry s t ≡ Some next → m < 128 → CountsLock words next m
+act_counts first words callers h c a t stage.Locking next m acting e low =
+    let own = low_of first words callers h c a t stage.Locking acting in
+    subst (λ (x : Act). CountsLock words x m) (let same : take_act (lock_bit_of a.geometry t) ≡ next = cc in same)
+    (take_counts words (lock_of_task a t) m (omega (arith, own, acting.stands.shape.size)))
+act_counts first words callers h c a t stage.Looking next m acting e low =
+    let load = some_mapped act.Load (l1_place_of a.geometry (address_of t)) next e in
+    let at = index_at a.geometry (address_of t) load.0 load.1 in
+    subst (λ (x : Act). CountsLock words x m) load.2 (elsewhere_counts words load.0 (slice_index words load.0) m (omega (arith, at.2)) low)
+act_counts first words callers h c a t (stage.Reading z k) next m acting e low =
+    subst (λ (x : Act). CountsLock words x m) (let same : gen_load_of a.geometry z (address_of t) ≡ next = cc in same)
+    (elsewhere_counts words (gen_place_of a.geometry z (address_of t)) (slice_index words (gen_place_of a.geometry z (address_of t))) m (generation_low a.geometry z (address_of t / size_bytes z)) low)
+act_counts first words callers h c a t (stage.Changing ch k) next m acting e low =
+    let store = some_mapped (λ place. act.Store place (changed_word a.geometry t ch k.word)) (l1_place_of a.geometry (address_of t)) next e in
+    let at = index_at a.geometry (address_of t) store.0 store.1 in
+    subst (λ (x : Act). CountsLock words x m) store.2 (elsewhere_counts words store.0 (changed_word a.geometry t ch k.word) m (omega (arith, at.2)) low)
+act_counts first words callers h c a t (stage.Raising ch z k) next m acting e low =
+    subst (λ (x : Act). CountsLock words x m) (let same : gen_raise_of a.geometry z (address_of t) (generation_in z k.generations) ≡ next = cc in same)
+    (elsewhere_counts words (gen_place_of a.geometry z (address_of t)) (generation_in z k.generations + 1) m (generation_low a.geometry z (address_of t / size_bytes z)) low)
+act_counts first words callers h c a t (stage.Releasing o) next m acting e low =
+    let s = stage.Releasing o in
+    let own = low_of first words callers h c a t s acting in
+    let has : holds (lock_of_task a t) (caller.Agent (at_stage a s)) ≡ true = rw acting.under_way (eq-eqb (lock_of_task a t) (lock_of_task a t) refl) in
+    subst (λ (x : Act). CountsLock words x m) (let same : release_act (lock_bit_of a.geometry t) ≡ next = cc in same)
+    (release_counts words (lock_of_task a t) m (omega (arith, own, acting.stands.shape.size))
+    (holder_bit words callers c (lock_of_task a t) (caller.Agent (at_stage a s)) acting.at acting.stands.locks own has))
+act_counts first words callers h c a t stage.Stopped next m acting e low = absurd cc
+
+agent_counts : (first : List Gpi) (words : List ℕ) (callers : List Caller) (h : List Entry) (c : ℕ) (a : AgentData) (next : Act) (o : Option Task) (m : ℕ)
+    → Stands a.geometry first words callers h → slice_get callers c ≡ Some (caller.Agent a) → IsMade a.geometry (caller.Agent a) → task_of a ≡ o → option_and_then (act_at a.geometry a.stage) o ≡ Some next → m < 128
+    → CountsLock words next m
+agent_counts first words callers h c a next None m stands at made under_way e low = absurd cc
+agent_counts first words callers h c a next (Some t) m stands at made under_way e low =
+    act_counts first words callers h c a t a.stage next m
+    (record { stands = stands; at = at; is = made.1; under_way = under_way; acts = subst (HasActs a.geometry) under_way made.1.acts }) e low
+
+caller_counts : (g : GeometryData) (first : List Gpi) (words : List ℕ) (callers : List Caller) (h : List Entry) (c : ℕ) (x : Caller) (t : Act) (m : ℕ) → Stands g first words callers h → slice_get callers c ≡ Some x → caller_next x ≡ Some t → m < 128
+    → CountsLock words t m
+caller_counts g first words callers h c (caller.Cpu looks) t m stands at next low = absurd cc
+caller_counts g first words callers h c (caller.Agent a) t m stands at next low =
+    let made = made_at_place g first words callers c (caller.Agent a) stands.shape at in
+    agent_counts first words callers h c a t (task_of a) m
+    (subst (λ (k : GeometryData). Stands k first words callers h) (sym made.0) stands) at
+    (subst (λ (k : GeometryData). IsMade k (caller.Agent a)) (sym made.0) made) refl next low
+
+-- the locks taken and released by a trace make the lock bits
+abbrev CountsTrace : ℕ → List ℕ → List ℕ → List TraceEvent → Type 0
+CountsTrace n before after trace = lock_bit after n + count_by (releases n) trace ≡ lock_bit before n + count_by (takes n) trace
+
+count_one : (p : TraceEvent → Bool) (e : TraceEvent) → count_by p (e ∷ []) ≡ one (p e)
+count_one p e = let counted : count_by p (e ∷ []) ≡ one (p e) + count_by p [] = sum_by-cons (λ x. one (p x)) e [] in omega (arith, counted)
+
+count_joined : (p : TraceEvent → Bool) (xs ys : List TraceEvent) → count_by p (xs ++ ys) ≡ count_by p xs + count_by p ys
+count_joined p xs ys = sum_by-append (λ x. one (p x)) xs ys
+
+event_counts : (n : ℕ) (first : List Gpi) (m : MachineData) (h : List Entry) (c : ℕ) (a : Caller) (o : Option Act) → n < 128 → StandsFor first m h → slice_get m.callers c ≡ Some a → caller_next a ≡ o
+    → CountsTrace n m.words (after_act_of m c a o).words (event_of m c a o)
+event_counts n first m h c a None low stands at next = refl
+event_counts n first m h c a (Some t) low stands at next =
+    let counts = caller_counts m.geometry first m.words m.callers h c a t n stands at next low in
+    let e : TraceEvent = record { caller = c; event = made_event m c a t } in
+    omega (arith, counts, count_one (releases n) e, count_one (takes n) e)
+
+turn_counts : (n : ℕ) (first : List Gpi) (m : MachineData) (h : List Entry) (c : ℕ) (o : Option Caller) → n < 128 → StandsFor first m h → slice_get m.callers c ≡ o
+    → CountsTrace n m.words (after_turn_of m c o).words (turn_event_of m c o)
+turn_counts n first m h c None low stands at = refl
+turn_counts n first m h c (Some a) low stands at = event_counts n first m h c a (caller_next a) low stands at refl
+
+pub trace_counts : (n : ℕ) (first : List Gpi) (m : MachineData) (h : List Entry) (turns : List ℕ) → n < 128 → StandsFor first m h → CountsTrace n m.words (after_turns m turns).words (trace_of m turns)
+trace_counts n first m h [] low stands = refl
+trace_counts n first m h (c ∷ turns) low stands =
+    let now = turn_counts n first m h c (slice_get m.callers c) low stands refl in
+    let later = trace_counts n first (after_turn m c) (h ++ turn_told m c) turns low (turn_stands first m h c stands) in
+    let taken = count_joined (takes n) (turn_event_of m c (slice_get m.callers c)) (trace_of (after_turn m c) turns) in
+    let let_go = count_joined (releases n) (turn_event_of m c (slice_get m.callers c)) (trace_of (after_turn m c) turns) in
+    omega (arith, now, later, taken, let_go)
