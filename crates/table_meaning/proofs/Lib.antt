@@ -3,3 +3,5 @@ pub mod ChangeLemmas
 pub mod SplitLemmas
 pub mod TestLemmas
 pub mod FusingLemmas
+pub mod PlaceLemmas
+pub mod EquationLemmas
