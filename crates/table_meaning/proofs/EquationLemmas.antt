@@ -101,12 +101,12 @@ apart_set s (y ∷ hs) (suc c) h x w at same =
 
 -- ---- one holder's step
 
-holder_set_same : (hs : List Holder) (c : ℕ) (h x : Holder) → slice_get hs c ≡ Some h → slice_get (set hs c x) c ≡ Some x
+pub holder_set_same : (hs : List Holder) (c : ℕ) (h x : Holder) → slice_get hs c ≡ Some h → slice_get (set hs c x) c ≡ Some x
 holder_set_same [] c h x at = absurd cc
 holder_set_same (y ∷ hs) zero h x at = refl
 holder_set_same (y ∷ hs) (suc c) h x at = holder_set_same hs c h x at
 
-holder_set_other : (hs : List Holder) (c d : ℕ) (x : Holder) → d ≢ c → slice_get (set hs c x) d ≡ slice_get hs d
+pub holder_set_other : (hs : List Holder) (c d : ℕ) (x : Holder) → d ≢ c → slice_get (set hs c x) d ≡ slice_get hs d
 holder_set_other [] c d x other = refl
 holder_set_other (y ∷ hs) zero zero x other = absurd (other refl)
 holder_set_other (y ∷ hs) zero (suc d) x other = refl

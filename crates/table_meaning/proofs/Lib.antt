@@ -5,3 +5,4 @@ pub mod TestLemmas
 pub mod FusingLemmas
 pub mod PlaceLemmas
 pub mod EquationLemmas
+pub mod StepLemmas
