@@ -6,3 +6,4 @@ pub mod FusingLemmas
 pub mod PlaceLemmas
 pub mod EquationLemmas
 pub mod StepLemmas
+pub mod FactLemmas
