@@ -14,11 +14,11 @@ ghost use Rattle.shatter.specs.Splitting.{split_word};
 /// apart from it as they stand.
 pub fn splitting_keeps_the_map()
     ensures apart { (s : SetupData) (m : ℕ → Gpi) (z : Size) (b own j granule : ℕ) → is_one_block s m z b ≡ true → own < words_of s z → j < words_of s z → granule / 16 ≡ b * words_of s z + own
-        → split_word own (m (16 * (b * words_of s z))) j ≡ canonical_word s m (Some granule) (b * words_of s z + j) }
+        → split_word (words_of s Size.Two) own (m (16 * (b * words_of s z))) j ≡ canonical_word s m (Some granule) (b * words_of s z + j) }
     ensures meaning { (s : SetupData) (m : ℕ → Gpi) (z : Size) (b own j i : ℕ) → is_one_block s m z b ≡ true → own < words_of s z → j < words_of s z → i < 16
-        → word_gpi (split_word own (m (16 * (b * words_of s z))) j) i ≡ Some (m (16 * (b * words_of s z + j) + i)) }
+        → word_gpi (split_word (words_of s Size.Two) own (m (16 * (b * words_of s z))) j) i ≡ Some (m (16 * (b * words_of s z + j) + i)) }
     ensures covers { (s : SetupData) (m : ℕ → Gpi) (z : Size) (b own j : ℕ) (e : L1Entry) → is_one_block s m z b ≡ true → own < words_of s z → j < words_of s z
-        → l1_entry (split_word own (m (16 * (b * words_of s z))) j) ≡ Some e → CoversEqual s m (b * words_of s z + j) e }
+        → l1_entry (split_word (words_of s Size.Two) own (m (16 * (b * words_of s z))) j) ≡ Some e → CoversEqual s m (b * words_of s z + j) e }
     ensures elsewhere { (s : SetupData) (m : ℕ → Gpi) (z : Size) (granule w : ℕ) → largest_block s m None (granule / 16) ≡ Some z → w / words_of s z ≢ granule / 16 / words_of s z
         → canonical_word s m (Some granule) w ≡ canonical_word s m None w }
 {}

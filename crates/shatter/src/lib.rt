@@ -3,10 +3,12 @@
 //! No call takes memory.
 #![tactic(auto)]
 
+mod block;
 mod law;
 mod splitting;
 #[cfg(test)]
 mod tests;
 
+pub use block::Shatter;
 pub use law::splitting_keeps_the_map;
-pub use splitting::Shatter;
+pub use splitting::Splitting;
