@@ -13,7 +13,9 @@ use Rattle.gpt_descriptors.proofs.CanonicalLemmas.{words_some, thirty_two_around
 use Rattle.gpt_descriptors.proofs.BlockLemmas.{first_word, first_granule, widest, in_widest}
 use Rattle.gpt_descriptors.proofs.AroundLemmas.{own_word, granules_found}
 use Rattle.table_meaning.specs.Changing.{AgreesAround}
-use Rattle.table_meaning.specs.Fusing.{Fusing, Testing, Storing, Ended, loads_of, load_at, loaded, stored, begun, ShownBefore, Knows}
+use Rattle.table_meaning.specs.declared.fusing.Fusing.{Fusing}
+use Rattle.table_meaning.specs.declared.fusing.Fusing.TheVariants.{Testing, Storing, Ended}
+use Rattle.table_meaning.specs.Fusing.{loads_of, load_at, loaded, stored, begun, ShownBefore, Knows}
 use Rattle.table_meaning.specs.Facts.{Stage, Idle, Looked, Splits, Keeps, Merges, Facts}
 use Rattle.table_meaning.proofs.ChangeLemmas.{canonical_local, largest_local, apart_same, change_own}
 use Rattle.table_meaning.proofs.SplitLemmas.{packed_of, block_granule, loaded_says}

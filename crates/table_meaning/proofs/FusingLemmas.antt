@@ -15,7 +15,8 @@ use Rattle.gpt_descriptors.proofs.CanonicalLemmas.{words_some}
 use Rattle.gpt_descriptors.proofs.BlockLemmas.{start_low, start_high, from_start, permits_two, permits_thirty_two}
 use Rattle.gpt_descriptors.proofs.AroundLemmas.{largest_from}
 use Rattle.table_meaning.specs.Merging.{PassesTwo, PassesThirtyTwo, PassesFiveTwelve}
-use Rattle.table_meaning.specs.Fusing.{Testing, Storing, block_words, loads_of, beside, load_at, needed_word, passed, failed, loaded, stored, begun, ShownBefore, Knows}
+use Rattle.table_meaning.specs.declared.fusing.Fusing.TheVariants.{Testing, Storing}
+use Rattle.table_meaning.specs.Fusing.{block_words, loads_of, beside, load_at, needed_word, passed, failed, loaded, stored, begun, ShownBefore, Knows}
 use Rattle.table_meaning.proofs.TestLemmas.{two_says, two_passes, thirty_two_says, thirty_two_passes, five_twelve_says, smaller_is, around_from, finds_largest}
 
 -- ---- sizes by the words of 2 MB

@@ -18,7 +18,9 @@ use Rattle.gpt_descriptors.proofs.PackedLemmas.{granules_one}
 use Rattle.gpt_descriptors.proofs.BlockLemmas.{from_start, in_widest}
 use Rattle.gpt_descriptors.proofs.AroundLemmas.{largest_permitted, largest_block_is, contiguous_word, own_word}
 use Rattle.table_meaning.specs.Splitting.{block_start, is_stored, split_around}
-use Rattle.table_meaning.specs.Fusing.{Fusing, Testing, Storing, Ended, block_words, test_or_store, passed, failed, loaded, stored, begun, loads_of, needed_word, Knows}
+use Rattle.table_meaning.specs.declared.fusing.Fusing.{Fusing}
+use Rattle.table_meaning.specs.declared.fusing.Fusing.TheVariants.{Testing, Storing, Ended}
+use Rattle.table_meaning.specs.Fusing.{block_words, test_or_store, passed, failed, loaded, stored, begun, loads_of, needed_word, Knows}
 use Rattle.table_meaning.specs.Equation.{Step, Whole, Splitting, Apart, Merging, Holder, apart_in, apart_by, AreWords, IsAlone}
 use Rattle.table_meaning.specs.Facts.{merging_step}
 use Rattle.table_meaning.proofs.ChangeLemmas.{apart_same, change_apart, change_own, change_elsewhere}
