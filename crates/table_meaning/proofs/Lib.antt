@@ -7,3 +7,4 @@ pub mod PlaceLemmas
 pub mod EquationLemmas
 pub mod StepLemmas
 pub mod FactLemmas
+pub mod StoreLemmas

@@ -65,17 +65,17 @@ holder_reads g m hs c granule step words w i at alone index inside are =
 
 -- ---- the first k words of a block
 
-none_stored : (s : SetupData) (z : Size) (v w : ℕ) → is_stored s z v 0 w ≡ false
+pub none_stored : (s : SetupData) (z : Size) (v w : ℕ) → is_stored s z v 0 w ≡ false
 none_stored s z v w =
     elim (cases_Bool (is_stored s z v 0 w)) [
       | inl stored ↦ absurd (let low = stored_low s z v 0 w stored in let high = stored_high s z v 0 w stored in omega (arith, low, high))
       | inr none ↦ none
     ]
 
-stored_last : (s : SetupData) (z : Size) (v k : ℕ) → is_stored s z v (k + 1) (block_start s z v + k) ≡ true
+pub stored_last : (s : SetupData) (z : Size) (v k : ℕ) → is_stored s z v (k + 1) (block_start s z v + k) ≡ true
 stored_last s z v k = stored_from s z v (k + 1) (block_start s z v + k) (omega arith) (omega arith)
 
-stored_step : (s : SetupData) (z : Size) (v k w : ℕ) → w ≢ block_start s z v + k → is_stored s z v k w ≡ is_stored s z v (k + 1) w
+pub stored_step : (s : SetupData) (z : Size) (v k w : ℕ) → w ≢ block_start s z v + k → is_stored s z v k w ≡ is_stored s z v (k + 1) w
 stored_step s z v k w other =
     elim (cases_Bool (is_stored s z v k w)) [
       | inl stored ↦ stored ∙ sym (stored_from s z v (k + 1) w (stored_low s z v k w stored) (omega (arith, stored_high s z v k w stored)))
@@ -88,7 +88,7 @@ stored_step s z v k w other =
     ]
 
 -- each of them is in the holder's block, and so in its 512 MB
-store_block : (s : SetupData) (z : Size) (v k : ℕ) → k < words_of s z → (block_start s z v + k) / words_of s z ≡ v / words_of s z
+pub store_block : (s : SetupData) (z : Size) (v k : ℕ) → k < words_of s z → (block_start s z v + k) / words_of s z ≡ v / words_of s z
 store_block s z v k low = from_start (words_of s z) (v / words_of s z) (block_start s z v + k) (omega arith) (omega (arith, low))
 
 pub store_inside : (s : SetupData) (z : Size) (v k : ℕ) → k < words_of s z → v / words_of s size.FiveTwelve ≡ (block_start s z v + k) / words_of s size.FiveTwelve

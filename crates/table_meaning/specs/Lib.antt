@@ -1,6 +1,7 @@
 pub mod Meaning
 pub mod Changing
 pub mod Splitting
+pub mod Stores
 pub mod Merging
 pub mod Fusing
 pub mod Equation
