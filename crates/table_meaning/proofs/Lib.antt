@@ -8,3 +8,4 @@ pub mod EquationLemmas
 pub mod StepLemmas
 pub mod FactLemmas
 pub mod StoreLemmas
+pub mod LawLemmas

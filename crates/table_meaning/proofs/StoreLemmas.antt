@@ -38,7 +38,7 @@ stored_apart_words s l0 l1 m before after v i word at within is same are = λ w 
 
 -- ---- k stores of a block
 
-stores_length : (word : ℕ → ℕ) (first k : ℕ) (words : List ℕ) → length (after_stores word first k words) ≡ length words
+pub stores_length : (word : ℕ → ℕ) (first k : ℕ) (words : List ℕ) → length (after_stores word first k words) ≡ length words
 unfolding after_stores
 stores_length word first zero words = refl
 stores_length word first (suc k) words = length-set (after_stores word first k words) (first + k) (word k) ∙ stores_length word first k words

@@ -6,3 +6,4 @@ pub mod Merging
 pub mod Fusing
 pub mod Equation
 pub mod Facts
+pub mod Laws
