@@ -60,16 +60,33 @@ abbrev pub gpi_or_none : Option Gpi → Gpi
 gpi_or_none (Some v) = v
 gpi_or_none None = gpi.NoAccess
 
--- merging around L1 word i, which is this word
-abbrev pub fuse_of : GeometryData → ℕ → ℕ → FuseData
-fuse_of g i word = record {
-  first = place_of g (Level1 0);
-  own = i;
-  two = words_of g.setup size.Two;
-  max = g.setup.max;
-  gpi = gpi_or_none (equal_gpi word);
-  step = begun g.setup.max (equal_gpi word);
+-- ---- the start
+
+-- what merging is around: the place of the first L1 word, the number of the granule's word among the L1 words, how
+-- many words 2 MB have, the largest permitted size, and the word that was written last
+pub record Around : Type 0 where
+  pub first : ℕ
+  pub own : ℕ
+  pub two : ℕ
+  pub max : MaxBlock
+  pub word : ℕ
+
+-- around L1 word i of a geometry, which is this word
+abbrev pub around_of : GeometryData → ℕ → ℕ → Around
+around_of g i word = record { first = place_of g (Level1 0); own = i; two = words_of g.setup size.Two; max = g.setup.max; word = word }
+
+abbrev pub begin_of : Around → FuseData
+begin_of a = record {
+  first = a.first;
+  own = a.own;
+  two = a.two;
+  max = a.max;
+  gpi = gpi_or_none (equal_gpi a.word);
+  step = begun a.max (equal_gpi a.word);
 }
+
+abbrev pub fuse_of : GeometryData → ℕ → ℕ → FuseData
+fuse_of g i word = begin_of (around_of g i word)
 
 -- ---- the numbers of the next load and store are below their counts
 

@@ -3,10 +3,12 @@
 //! GPI one contiguous entry. No call takes memory.
 #![tactic(auto)]
 
+mod law;
 mod merging;
 mod outcome;
 mod step;
 
+pub use law::steps_walk_the_script;
 pub use merging::Fuse;
 pub use outcome::Fused;
 pub use table_meaning::Fusing;
