@@ -1,6 +1,8 @@
 -- The words of a split block, by their numbers in the block and in the protected space.
-use Rattle.std.proofs.Common.{◌≡◌, ◌≢◌, ℕ, ◌+◌, ◌-◌, ◌*◌, ◌/◌, ◌≤◌, ◌<◌, Bool, true, false, ◌&&◌, cond, eqb, leb, ltb, Some, None, refl, sym, ap, ◌∙◌, subst, arith, inl, inr, mul_assoc}
+use Rattle.std.proofs.Common.{◌≡◌, ◌≢◌, ℕ, zero, suc, map, ◌+◌, ◌-◌, ◌*◌, ◌/◌, ◌≤◌, ◌<◌, Bool, true, false, ◌&&◌, cond, eqb, leb, ltb, Some, None, refl, sym, ap, ◌∙◌, subst, arith, inl, inr, mul_assoc}
 use Rattle.std.proofs.Math.Nat.{mul-add-div_right}
+use Rattle.std.specs.Prelude.{slice_get}
+use Rattle.std.specs.List.{range_with_len}
 use Rattle.std.proofs.lemmas.Nat.{div-mul-add}
 use Rattle.std.proofs.lemmas.Bool.{cases_eq, cases_lt, eq-eqb, ne_eqb, lt-ltb, le-ltb, le-leb, lt-leb}
 use Rattle.gpi_values.specs.declared.gpi.Gpi.{Gpi}
@@ -16,10 +18,11 @@ use Rattle.gpt_descriptors.proofs.SizeLemmas.{thirty_two_is, five_twelve_is}
 use Rattle.gpt_descriptors.proofs.CanonicalLemmas.{words_some}
 use Rattle.gpt_descriptors.proofs.MeaningLemmas.{canonical_meaning, canonical_covers}
 use Rattle.gpt_descriptors.proofs.BlockLemmas.{start_low, start_high, from_start, first_granule, wider, permitted_of, block_is_from}
+use Rattle.shared_words.specs.declared.act.Act.{Act}
 use Rattle.table_meaning.specs.Splitting.{split_around}
 use Rattle.table_meaning.proofs.ChangeLemmas.{elsewhere_same}
 use Rattle.table_meaning.proofs.SplitLemmas.{split_around_is}
-use Rattle.shatter.specs.Splitting.{split_word}
+use Rattle.shatter.specs.Splitting.{SplittingData, split_word, store_of, splitting_stores, next_store}
 
 -- a word of the block of another one, by the block's start
 pub in_block : (j start n own : ℕ) → 0 < n → start ≡ own / n * n → leb start j && ltb (j - start) n ≡ eqb (j / n) (own / n)
@@ -141,3 +144,24 @@ split_covers s m z b own j e one own_in j_in read =
 pub split_elsewhere : (s : SetupData) (m : ℕ → Gpi) (z : Size) (granule w : ℕ) → largest_block s m None (granule / 16) ≡ Some z → w / words_of s z ≢ granule / 16 / words_of s z
     → canonical_word s m (Some granule) w ≡ canonical_word s m None w
 split_elsewhere s m z granule w is away = sym (elsewhere_same s m z granule w is away)
+
+-- ---- the order of the stores
+
+ltb_suc : (k n : ℕ) → ltb k n ≡ ltb (suc k) (suc n)
+ltb_suc k n =
+    elim (cases_lt k n) [
+      | inl low ↦ lt-ltb k n low ∙ sym (lt-ltb (suc k) (suc n) (omega (arith, low)))
+      | inr high ↦ le-ltb k n high ∙ sym (le-ltb (suc k) (suc n) (omega (arith, high)))
+    ]
+
+mapped_at : (f : ℕ → Act) (a n k : ℕ) → slice_get (map f (range_with_len a n)) k ≡ cond (ltb k n) (Some (f (a + k))) None
+mapped_at f a zero k = rw (le-ltb k 0 (omega arith)) refl
+mapped_at f a (suc n) zero = rw (lt-ltb 0 (suc n) (omega arith)) (ap (λ (j : ℕ). Some (f j)) (let same : a ≡ a + 0 = omega arith in same))
+mapped_at f a (suc n) (suc k) =
+    mapped_at f (a + 1) n k ∙ ap (λ (j : ℕ). cond (ltb k n) (Some (f j)) None) (let same : a + 1 + k ≡ a + suc k = omega arith in same)
+    ∙ ap (λ (b : Bool). cond b (Some (f (a + suc k))) None) (ltb_suc k n)
+
+pub next_in_order : (d : SplittingData) → next_store d ≡ slice_get (splitting_stores d) d.made
+next_in_order d =
+    ap (λ (j : ℕ). cond (ltb d.made d.words) (Some (store_of d j)) None) (let same : d.made ≡ 0 + d.made = omega arith in same)
+    ∙ sym (mapped_at (store_of d) 0 d.words d.made)

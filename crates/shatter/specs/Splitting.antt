@@ -1,7 +1,8 @@
 -- Splitting: the words that a contiguous block becomes when one of its granules is to be changed (TF-A gpt_rme,
 -- shattering of contiguous descriptors). The 2 MB around that granule get granules words, the other words of its
 -- 32 MB contiguous entries of 2 MB, and those outside it contiguous entries of 32 MB.
-use Rattle.std.specs.Prelude.{ℕ, ◌+◌, ◌*◌, ◌/◌, ◌==◌, nat_lt, Option, Some, None, if◌then◌else◌}
+use Rattle.std.specs.Prelude.{ℕ, ◌+◌, ◌*◌, ◌/◌, ◌==◌, nat_lt, List, map, Option, Some, None, if◌then◌else◌}
+use Rattle.std.specs.List.{range_with_len}
 use Rattle.gpi_values.specs.declared.gpi.Gpi.{Gpi}
 use Rattle.gpt_descriptors.specs.declared.size.Size.TheVariants as size
 use Rattle.gpt_descriptors.specs.declared.entry.L1Entry.{L1Entry}
@@ -30,10 +31,16 @@ pub record SplittingData : Type 0 where
   pub words : ℕ
   pub two : ℕ
 
--- the next store, in rising order of places; none after the last
+-- store j of a splitting, and all of them, in rising order of places
+abbrev pub store_of : SplittingData → ℕ → Act
+store_of d j = act.Store (d.first + j) (split_word d.two d.own d.gpi j)
+
+abbrev pub splitting_stores : SplittingData → List Act
+splitting_stores d = map (store_of d) (range_with_len 0 d.words)
+
+-- the next store; none after the last
 abbrev pub next_store : SplittingData → Option Act
-next_store d =
-    if nat_lt d.made d.words then Some (act.Store (d.first + d.made) (split_word d.two d.own d.gpi d.made)) else None
+next_store d = if nat_lt d.made d.words then Some (store_of d d.made) else None
 
 -- after that store
 abbrev pub advanced : SplittingData → SplittingData

@@ -6,9 +6,7 @@
 mod block;
 mod law;
 mod splitting;
-#[cfg(test)]
-mod tests;
 
 pub use block::Shatter;
-pub use law::splitting_keeps_the_map;
+pub use law::{splitting_keeps_the_map, stores_are_in_order};
 pub use splitting::Splitting;
