@@ -1,6 +1,6 @@
 -- Places of L1 words: the number of an address's L1 word among the L1 words, and the places of the test of 512 MB.
 use Rattle.std.proofs.Common.{◌≡◌, ℕ, ◌+◌, ◌-◌, ◌*◌, ◌/◌, ◌%◌, ◌≤◌, ◌<◌, Option, Some, None, sym, ap, ◌∙◌, subst, arith}
-use Rattle.std.specs.Prelude.{IfSome, IsSome}
+use Rattle.std.specs.Prelude.{IfSome}
 use Rattle.std.specs.Option.{option_map}
 use Rattle.gpt_descriptors.specs.declared.size.Size.TheVariants as size
 use Rattle.gpt_descriptors.specs.Places.{GeometryData, IsGeometry, Level1, place_of, l1_index_of, l1_place_of}
@@ -24,13 +24,6 @@ index_after g pa place first at start = subst (λ (n : ℕ). n ≤ place) (sym s
 pub index_value : (g : GeometryData) (pa place first : ℕ) → Some place ≡ l1_place_of g pa → first ≡ place_of g (Level1 0) → IfSome (l1_index_of g pa) (λ i. place - first ≡ i)
 index_value g pa place first at start =
     subst (λ (o : Option ℕ). IfSome o (λ i. place - first ≡ i)) (sym (place_index g place (l1_index_of g pa) at)) (ap (λ (n : ℕ). place - n) start)
-
-none_map : (g : GeometryData) (o : Option ℕ) → None ≡ option_map (λ i. place_of g (Level1 i)) o → IsSome o → ⊥
-none_map g None e some = absurd cc
-none_map g (Some i) e some = absurd cc
-
-pub no_place : (g : GeometryData) (pa : ℕ) → None ≡ l1_place_of g pa → IsSome (l1_index_of g pa) → ⊥
-no_place g pa none some = none_map g (l1_index_of g pa) none some
 
 pub index_low : (g : GeometryData) (pa place first : ℕ) → IsGeometry g → Some place ≡ l1_place_of g pa → first ≡ place_of g (Level1 0) → place - first < 262144
 index_low g pa place first is at start =

@@ -1,6 +1,6 @@
 ghost use Rattle.std.specs.Prelude.{◌≡◌, ◌+◌, ◌*◌, ◌/◌, ◌%◌, ◌^◌, ◌<◌, ◌≤◌, IsSome, IfSome, None};
 ghost use Rattle.gpt_descriptors.specs.Sizes.{space_bytes};
-ghost use Rattle.gpt_descriptors.specs.Places.{IsGeometry, l1_index_of};
+ghost use Rattle.gpt_descriptors.specs.Places.{IsGeometry, l1_index_of, l1_place_of};
 ghost use Rattle.table_meaning.specs.Fusing.{block_words, loads_of, load_at, store_at};
 ghost use Rattle.fuse.specs.Merging.{next_of, took_of, outcome_of, fuse_of};
 
@@ -75,7 +75,7 @@ impl Fuse {
     /// there last.
     pub fn new(geometry: &Geometry, pa: u64, word: u64) -> Fuse
         requires inside { pa < space_bytes geometry.now.setup }
-        requires table { IsSome (l1_index_of geometry.now pa) }
+        requires table { IsSome (l1_place_of geometry.now pa) }
         ensures { IfSome (l1_index_of geometry.now pa) (λ i. result ≡ fuse_of geometry.now i word) }
     {
         let gpi = equal_gpi(word);
@@ -171,7 +171,7 @@ impl Fuse {
 fn index_of(geometry: &Geometry, pa: u64) -> usize
     requires geometry { IsGeometry geometry.now }
     requires inside { pa < space_bytes geometry.now.setup }
-    requires table { IsSome (l1_index_of geometry.now pa) }
+    requires table { IsSome (l1_place_of geometry.now pa) }
     ensures value { IfSome (l1_index_of geometry.now pa) (λ i. result ≡ i) }
     ensures range { result < 262144 }
 {

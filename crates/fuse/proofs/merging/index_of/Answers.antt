@@ -1,11 +1,8 @@
-use Rattle.fuse.proofs.IndexLemmas.{index_after, index_value, index_low, no_place}
+use Rattle.fuse.proofs.IndexLemmas.{index_after, index_value, index_low}
 use Rattle.fuse.proofs.merging.index_of.Goals as goal
 
 pub overflow_sub-result : goal.overflow_sub-result
 overflow_sub-result c = index_after c.args.geometry.now c.args.pa c.in-Some.place c.first_l1_word.result c.in-Some.ensures.place c.first_l1_word.ensures.place
-
-pub unreachable-requires : goal.unreachable-requires
-unreachable-requires c = no_place c.args.geometry.now c.args.pa c.in-None.ensures.place c.requires.table
 
 pub returns-clause-value : goal.returns-clause-value
 returns-clause-value c = index_value c.args.geometry.now c.args.pa c.in-Some.place c.first_l1_word.result c.in-Some.ensures.place c.first_l1_word.ensures.place
