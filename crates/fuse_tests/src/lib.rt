@@ -2,5 +2,7 @@
 #![tactic(auto)]
 
 mod finding;
+#[cfg(test)]
+mod merging;
 
 pub use finding::find_size;
