@@ -1,14 +1,15 @@
 -- The words of granules: sixteen fields of four bits.
-use Rattle.std.proofs.Common.{◌≡◌, ◌≢◌, ℕ, zero, suc, ◌+◌, ◌*◌, ◌/◌, ◌%◌, ◌^◌, ◌≤◌, ◌<◌, refl, sym, ap, ◌∙◌, arith, inl, inr}
+use Rattle.std.proofs.Common.{◌≡◌, ◌≢◌, ℕ, zero, suc, ◌+◌, ◌*◌, ◌/◌, ◌%◌, ◌^◌, ◌≤◌, ◌<◌, cond, eqb, Option, Some, None, refl, sym, ap, ◌∙◌, arith, inl, inr}
+use Rattle.std.specs.Prelude.{option_and_then}
 use Rattle.std.proofs.Math.Nat.{div-div-eq-div-mul}
 use Rattle.std.proofs.Math.Pow.{pow_mono}
 use Rattle.std.proofs.lemmas.Nat.{pow-add}
-use Rattle.std.proofs.lemmas.Bool.{cases_eq}
+use Rattle.std.proofs.lemmas.Bool.{cases_Bool, cases_eq, eqb-true, eq-eqb}
 use Rattle.gpi_values.specs.declared.gpi.Gpi.{Gpi}
-use Rattle.gpi_values.specs.Values.{value_of}
-use Rattle.gpi_values.proofs.ValueLemmas.{value_low, value_one}
+use Rattle.gpi_values.specs.Values.{value_of, gpi_with}
+use Rattle.gpi_values.proofs.ValueLemmas.{gpi_with-value_of, value_low, value_one}
 use Rattle.gpt_descriptors.specs.Entries.{field, packed}
-use Rattle.gpt_descriptors.specs.Fields.{with_field, granules_of}
+use Rattle.gpt_descriptors.specs.Fields.{with_field, granules_of, equal_gpi}
 use Rattle.gpt_descriptors.proofs.FieldLemmas.{with_field_fits}
 use Rattle.gpt_descriptors.proofs.FieldEntryLemmas.{field_same, field_other}
 
@@ -67,6 +68,31 @@ packed_alike m l a b n same = packed_by l b n (packed m a n) (packed_below m a n
 pub packed_one : (m l : ℕ → Gpi) (a b n k : ℕ) → packed m a n ≡ packed l b n → k < n → m (a + k) ≡ l (b + k)
 packed_one m l a b n k same low =
     value_one (m (a + k)) (l (b + k)) (sym (packed_field m a n k low) ∙ ap (λ (word : ℕ). field word k) same ∙ packed_field l b n k low)
+
+-- ---- words of sixteen granules of one GPI
+
+pub lowest_field : (v : Gpi) → granules_of v % 16 ≡ value_of v
+lowest_field v = let first = packed-suc (λ k. v) 0 15 in omega (arith, first, value_low v)
+
+pub granules_gpi : (v w : Gpi) → granules_of v ≡ granules_of w → v ≡ w
+granules_gpi v w same = value_one v w (sym (lowest_field v) ∙ ap (λ (n : ℕ). n % 16) same ∙ lowest_field w)
+
+pub equal_of : (v : Gpi) → equal_gpi (granules_of v) ≡ Some v
+equal_of v = rw (lowest_field v, gpi_with-value_of v, eq-eqb (granules_of v) (granules_of v) refl) refl
+
+equal_by : (word : ℕ) (v : Gpi) (o : Option Gpi) → option_and_then (λ gpi. cond (eqb word (granules_of gpi)) (Some gpi) None) o ≡ Some v → word ≡ granules_of v
+equal_by word v None e = absurd cc
+equal_by word v (Some gpi) e =
+    elim (cases_Bool (eqb word (granules_of gpi))) [
+      | inl same ↦ let one : Some gpi ≡ Some v = rw same at e in eqb-true _ _ same ∙ (let gpis : gpi ≡ v = cc in ap granules_of gpis)
+      | inr other ↦ absurd (let none : None ≡ Some v = rw other at e in cc)
+    ]
+
+pub equal_found : (word : ℕ) (v : Gpi) → equal_gpi word ≡ Some v → word ≡ granules_of v
+equal_found word v e = equal_by word v (gpi_with (word % 16)) e
+
+pub equal_none : (word : ℕ) → equal_gpi word ≡ None → (v : Gpi) → word ≢ granules_of v
+equal_none word none v same = let found = ap equal_gpi same ∙ equal_of v in let both : None ≡ Some v = sym none ∙ found in absurd cc
 
 -- a word of sixteen granules of one GPI says so of each
 pub granules_one : (m : ℕ → Gpi) (first k : ℕ) (v : Gpi) → packed m first 16 ≡ granules_of v → k < 16 → m (first + k) ≡ v

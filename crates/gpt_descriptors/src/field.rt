@@ -1,7 +1,7 @@
-ghost use Rattle.std.specs.Prelude.{◌≡◌, ◌<◌, IsSome, Some};
+ghost use Rattle.std.specs.Prelude.{◌≡◌, ◌≢◌, ◌<◌, IsSome, IfSome, IfNone, Some};
 ghost use Rattle.gpi_values.specs.Values.{gpi_with};
 ghost use Rattle.gpt_descriptors.specs.Entries.{l1_entry, word_gpi};
-ghost use Rattle.gpt_descriptors.specs.Fields.{with_field, granules_of, is_granules};
+ghost use Rattle.gpt_descriptors.specs.Fields.{with_field, granules_of, equal_gpi, is_granules};
 
 use gpi_values::{Gpi, gpi_of};
 
@@ -29,6 +29,22 @@ pub fn granules_of(gpi: Gpi) -> u64
         Gpi::Root => 0xaaaa_aaaa_aaaa_aaaa,
         Gpi::Realm => 0xbbbb_bbbb_bbbb_bbbb,
         Gpi::Any => 0xffff_ffff_ffff_ffff,
+    }
+}
+
+/// The GPI of a word of sixteen equal ones, or `None` exactly where the word isn't that of sixteen granules
+/// of one GPI.
+#[tactic(auto, using(crate::proofs::PackedLemmas::lowest_field))]
+pub fn equal_gpi(word: u64) -> Option<Gpi>
+    ensures found { IfSome result (λ gpi. word ≡ granules_of gpi) }
+    ensures none { IfNone result ((gpi : Gpi) → word ≢ granules_of gpi) }
+    ensures exact { result ≡ equal_gpi word }
+{
+    let gpi = gpi_of(word % 16)?;
+    if word == granules_of(gpi) {
+        Some(gpi)
+    } else {
+        None
     }
 }
 

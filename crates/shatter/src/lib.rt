@@ -3,10 +3,10 @@
 //! No call takes memory.
 #![tactic(auto)]
 
+mod block;
 mod law;
 mod splitting;
-#[cfg(test)]
-mod tests;
 
-pub use law::splitting_keeps_the_map;
-pub use splitting::Shatter;
+pub use block::Shatter;
+pub use law::{splitting_keeps_the_map, stores_are_in_order};
+pub use splitting::Splitting;

@@ -1,90 +1,101 @@
-ghost use Rattle.std.specs.Prelude.{◌≡◌, ◌+◌, ◌-◌, ◌^◌, ◌<◌, ◌≤◌, IsSome};
-ghost use Rattle.shatter.specs.Splitting.{granules_of, split_word, next_store};
+ghost use Rattle.std.specs.Prelude.{◌≡◌, ◌+◌, ◌-◌, ◌*◌, ◌/◌, ◌^◌, ◌<◌, ◌≤◌, ◌==◌, ℕ, not, nat_lt, IsSome};
+ghost use Rattle.shatter.specs.Splitting.{split_word, next_store, advanced};
 
-use gpi_values::{Gpi, nibble};
-use gpt_descriptors::{L1Entry, Size, encode_l1};
+use gpt_descriptors::{Gpi, L1Entry, Size, encode_l1, granules_of};
 use shared_words::Act;
 use std::marker::Model;
 
-/// Words of a 2 MB block of granules of 4 KB.
-const TWO_WORDS: usize = 32;
-
-/// Words of a 32 MB block.
-const THIRTY_TWO_WORDS: usize = 512;
-
-/// The splitting of a contiguous block of `N` words, 32, 512 or 8,192 for 2, 32 and 512 MB, store by store.
+/// The splitting of a contiguous block, store by store, whatever number of words the block and 2 MB have.
 #[derive(Clone, Copy, Debug, PartialEq, Eq)]
-pub struct Shatter<const N: usize> {
+pub struct Splitting {
     first: usize,
     own: usize,
     gpi: Gpi,
     made: usize,
+    words: usize,
+    two: usize,
+    thirty_two: usize,
+    /// The first words of the 2 MB and of the 32 MB of the granule, counted from that of the block.
+    two_start: usize,
+    thirty_two_start: usize,
 }
 
-impl<const N: usize> Model for Shatter<N> {
-    ghost use Rattle.std.specs.Prelude.{◌+◌, ◌^◌, ◌<◌, ◌≤◌};
+impl Model for Splitting {
+    ghost use Rattle.std.specs.Prelude.{◌≡◌, ◌+◌, ◌*◌, ◌/◌, ◌^◌, ◌<◌, ◌≤◌};
     ghost use Rattle.shatter.specs.Splitting.{SplittingData};
 
     ghost Value = { SplittingData };
 
-    ghost view = { λ d. record { first = d.first; own = d.own; gpi = d.gpi; made = d.made } };
+    ghost view = { λ d. record { first = d.first; own = d.own; gpi = d.gpi; made = d.made; words = d.words; two = d.two } };
 
-    ghost invariant = { λ d. (d.made ≤ N) × (d.first + N < 2 ^ 64) };
+    ghost invariant = { λ d. (d.made ≤ d.words) × (d.first + d.words < 2 ^ 64) × (0 < d.two) × (d.thirty_two ≡ 16 * d.two)
+        × (d.two_start ≡ d.own / d.two * d.two) × (d.thirty_two_start ≡ d.own / d.thirty_two * d.thirty_two) };
 
-    ghost inverse = { λ d. record { first = d.first; own = d.own; gpi = d.gpi; made = d.made } };
+    ghost inverse = { λ d. record {
+      first = d.first;
+      own = d.own;
+      gpi = d.gpi;
+      made = d.made;
+      words = d.words;
+      two = d.two;
+      thirty_two = 16 * d.two;
+      two_start = d.own / d.two * d.two;
+      thirty_two_start = d.own / (16 * d.two) * (16 * d.two);
+    } };
 }
 
-/// The word of sixteen granules of this GPI.
-#[tactic(auto, unfolding(gpt_descriptors::specs::Entries::packed))]
-fn granules_of(gpi: Gpi) -> u64
-    ensures { result ≡ granules_of gpi }
+/// Whether word `j` is one of the `n` words from this start on, the block of another word.
+#[tactic(auto, using(crate::proofs::WordLemmas::in_block))]
+fn is_in_block(j: usize, start: usize, n: usize) -> bool
+    requires { 0 < n }
+    ensures { (own : ℕ) → start ≡ own / n * n → result ≡ (j / n == own / n) }
 {
-    match gpi {
-        Gpi::NoAccess => 0,
-        Gpi::Secure => 0x8888_8888_8888_8888,
-        Gpi::NonSecure => 0x9999_9999_9999_9999,
-        Gpi::Root => 0xaaaa_aaaa_aaaa_aaaa,
-        Gpi::Realm => 0xbbbb_bbbb_bbbb_bbbb,
-        Gpi::Any => 0xffff_ffff_ffff_ffff,
-    }
+    start <= j && j - start < n
 }
 
-/// Word `j` of a block of this GPI after its splitting around word `own`, both counted from its first one.
-fn split_word(own: usize, gpi: Gpi, j: usize) -> u64
-    ensures { result ≡ split_word own gpi j }
-{
-    if j / TWO_WORDS == own / TWO_WORDS {
-        granules_of(gpi)
-    } else if j / THIRTY_TWO_WORDS == own / THIRTY_TWO_WORDS {
-        encode_l1(L1Entry::Contig(Size::Two, gpi))
-    } else {
-        encode_l1(L1Entry::Contig(Size::ThirtyTwo, gpi))
-    }
-}
-
-impl<const N: usize> Shatter<N> {
+impl Splitting {
     /// The splitting of a block of this GPI before its first store. `first` is the place of the block's
-    /// first word, and `own`, below `N`, the word of the granule that is to be changed, counted from it.
-    pub fn new(first: usize, own: usize, gpi: Gpi) -> Shatter<N>
-        requires own { own < N }
-        requires room { first + N < 2 ^ 64 }
-        ensures { result ≡ record { first = first; own = own; gpi = gpi; made = 0 } }
+    /// first word, and `own` the word of the granule that is to be changed, counted from it; the block has
+    /// `words` words and 2 MB have `two`.
+    pub fn new(first: usize, own: usize, gpi: Gpi, words: usize, two: usize) -> Splitting
+        requires own { own < words }
+        requires room { first + words < 2 ^ 64 }
+        requires two { (0 < two) × (16 * two < 2 ^ 64) }
+        ensures { result ≡ record { first = first; own = own; gpi = gpi; made = 0; words = words; two = two } }
     {
-        Shatter {
+        let thirty_two = 16 * two;
+        Splitting {
             first,
             own,
             gpi,
             made: 0,
+            words,
+            two,
+            thirty_two,
+            two_start: own / two * two,
+            thirty_two_start: own / thirty_two * thirty_two,
         }
     }
 
-    /// The next store, or `None` exactly after `N` stores.
-    pub fn next(&self) -> Option<Act>
-        ensures { result ≡ next_store N self.now }
+    /// The word that the next store writes.
+    fn word(&self) -> u64
+        ensures { result ≡ split_word self.now.two self.now.own self.now.gpi self.now.made }
     {
-        if self.made < N {
-            let word = split_word(self.own, self.gpi, self.made);
-            Some(Act::Store(self.first + self.made, word))
+        if is_in_block(self.made, self.two_start, self.two) {
+            granules_of(self.gpi)
+        } else if is_in_block(self.made, self.thirty_two_start, self.thirty_two) {
+            encode_l1(L1Entry::Contig(Size::Two, self.gpi))
+        } else {
+            encode_l1(L1Entry::Contig(Size::ThirtyTwo, self.gpi))
+        }
+    }
+
+    /// The next store, or `None` exactly after as many stores as the block has words.
+    pub fn next(&self) -> Option<Act>
+        ensures { result ≡ next_store self.now }
+    {
+        if self.made < self.words {
+            Some(Act::Store(self.first + self.made, self.word()))
         } else {
             None
         }
@@ -92,9 +103,16 @@ impl<const N: usize> Shatter<N> {
 
     /// The next store was made.
     pub fn advance(&mut self)
-        requires { IsSome (next_store N self.old) }
-        ensures { self.new ≡ record { first = self.old.first; own = self.old.own; gpi = self.old.gpi; made = self.old.made + 1 } }
+        requires { IsSome (next_store self.old) }
+        ensures { self.new ≡ advanced self.old }
     {
         self.made += 1;
+    }
+
+    /// Whether all stores were made.
+    pub fn is_over(&self) -> bool
+        ensures { result ≡ not (nat_lt self.now.made self.now.words) }
+    {
+        self.made >= self.words
     }
 }

@@ -15,7 +15,8 @@ use Rattle.gpt_descriptors.proofs.CanonicalLemmas.{words_some}
 use Rattle.gpt_descriptors.proofs.BlockLemmas.{start_low, start_high, from_start, permits_two, permits_thirty_two}
 use Rattle.gpt_descriptors.proofs.AroundLemmas.{largest_from}
 use Rattle.table_meaning.specs.Merging.{PassesTwo, PassesThirtyTwo, PassesFiveTwelve}
-use Rattle.table_meaning.specs.Fusing.{Testing, Storing, block_words, loads_of, beside, load_at, needed_word, passed, failed, loaded, stored, begun, ShownBefore, Knows}
+use Rattle.table_meaning.specs.declared.fusing.Fusing.TheVariants.{Testing, Storing}
+use Rattle.table_meaning.specs.Fusing.{block_words, loads_of, beside, load_at, needed_word, passed, failed, loaded, stored, begun, ShownBefore, Knows}
 use Rattle.table_meaning.proofs.TestLemmas.{two_says, two_passes, thirty_two_says, thirty_two_passes, five_twelve_says, smaller_is, around_from, finds_largest}
 
 -- ---- sizes by the words of 2 MB
@@ -40,7 +41,7 @@ beside_cases j k =
     ]
 
 -- the blocks beside block x among the sixteen that hold it
-row_near : (x k : ℕ) → k < 15 → (x / 16 * 16 + beside (x % 16) k) / 16 ≡ x / 16
+pub row_near : (x k : ℕ) → k < 15 → (x / 16 * 16 + beside (x % 16) k) / 16 ≡ x / 16
 row_near x k low = elim (beside_cases (x % 16) k) [ inl (below, is) ↦ omega (arith, low, below, is) | inr (above, is) ↦ omega (arith, low, above, is) ]
 
 row_other : (x k : ℕ) → k < 15 → x / 16 * 16 + beside (x % 16) k ≢ x
@@ -70,17 +71,17 @@ two_loads s table own v each = λ w near.
     let at : own / n * n + (w - own / n * n) ≡ w = omega (arith, low) in
     subst (λ (k : ℕ). table k ≡ granules_of v) at (each (w - own / n * n) (omega (arith, low, high)))
 
-two_load_near : (s : SetupData) (own k : ℕ) → k < words_of s size.Two → load_at (words_of s size.Two) own size.Two k / words_of s size.Two ≡ own / words_of s size.Two
+pub two_load_near : (s : SetupData) (own k : ℕ) → k < words_of s size.Two → load_at (words_of s size.Two) own size.Two k / words_of s size.Two ≡ own / words_of s size.Two
 two_load_near s own k low = from_start (words_of s size.Two) (own / words_of s size.Two) (own / words_of s size.Two * words_of s size.Two + k) (omega arith) (omega (arith, low))
 
 -- the block of load k of the test of 32 MB
-abbrev two_row : SetupData → ℕ → ℕ → ℕ
+abbrev pub two_row : SetupData → ℕ → ℕ → ℕ
 two_row s own k = own / (16 * words_of s size.Two) * 16 + beside (own / words_of s size.Two % 16) k
 
-two_row_is : (s : SetupData) (own k : ℕ) → two_row s own k ≡ own / words_of s size.Two / 16 * 16 + beside (own / words_of s size.Two % 16) k
+pub two_row_is : (s : SetupData) (own k : ℕ) → two_row s own k ≡ own / words_of s size.Two / 16 * 16 + beside (own / words_of s size.Two % 16) k
 two_row_is s own k = ap (λ (n : ℕ). n * 16 + beside (own / words_of s size.Two % 16) k) (sixteenth own (words_of s size.Two))
 
-thirty_two_row : (s : SetupData) (own : ℕ) → own / words_of s size.Two / 16 ≡ own / words_of s size.ThirtyTwo
+pub thirty_two_row : (s : SetupData) (own : ℕ) → own / words_of s size.Two / 16 ≡ own / words_of s size.ThirtyTwo
 thirty_two_row s own = sym (sixteenth own (words_of s size.Two)) ∙ ap (λ (n : ℕ). own / n) (sym (thirty_two_is s))
 
 thirty_two_loads : (s : SetupData) (table : ℕ → ℕ) (own : ℕ) (v : Gpi)
@@ -91,19 +92,19 @@ thirty_two_loads s table own v each = λ q near other.
     subst (λ (n : ℕ). table (n * words_of s size.Two) ≡ l1_word (l1.Contig size.Two v)) (two_row_is s own hit.0 ∙ hit.2) (each hit.0 hit.1)
 
 -- the block of load k of the test of 512 MB
-abbrev big_row : SetupData → ℕ → ℕ → ℕ
+abbrev pub big_row : SetupData → ℕ → ℕ → ℕ
 big_row s own k = own / (16 * (16 * words_of s size.Two)) * 16 + beside (own / (16 * words_of s size.Two) % 16) k
 
-big_row_is : (s : SetupData) (own k : ℕ) → big_row s own k ≡ own / words_of s size.ThirtyTwo / 16 * 16 + beside (own / words_of s size.ThirtyTwo % 16) k
+pub big_row_is : (s : SetupData) (own k : ℕ) → big_row s own k ≡ own / words_of s size.ThirtyTwo / 16 * 16 + beside (own / words_of s size.ThirtyTwo % 16) k
 big_row_is s own k =
     ap (λ (n : ℕ). own / (16 * n) * 16 + beside (own / n % 16) k) (sym (thirty_two_is s))
     ∙ ap (λ (n : ℕ). n * 16 + beside (own / words_of s size.ThirtyTwo % 16) k) (sixteenth own (words_of s size.ThirtyTwo))
 
-five_twelve_row : (s : SetupData) (own : ℕ) → own / words_of s size.ThirtyTwo / 16 ≡ own / words_of s size.FiveTwelve
+pub five_twelve_row : (s : SetupData) (own : ℕ) → own / words_of s size.ThirtyTwo / 16 ≡ own / words_of s size.FiveTwelve
 five_twelve_row s own = sym (sixteenth own (words_of s size.ThirtyTwo)) ∙ ap (λ (n : ℕ). own / n) (sym (five_twelve_is s))
 
 -- the word of that load
-big_load : (s : SetupData) (own k : ℕ) → load_at (words_of s size.Two) own size.FiveTwelve k ≡ big_row s own k * words_of s size.ThirtyTwo
+pub big_load : (s : SetupData) (own k : ℕ) → load_at (words_of s size.Two) own size.FiveTwelve k ≡ big_row s own k * words_of s size.ThirtyTwo
 big_load s own k = ap (λ (n : ℕ). big_row s own k * n) (sym (thirty_two_is s))
 
 five_twelve_loads : (s : SetupData) (table : ℕ → ℕ) (own : ℕ) (v : Gpi)

@@ -3,3 +3,9 @@ pub mod ChangeLemmas
 pub mod SplitLemmas
 pub mod TestLemmas
 pub mod FusingLemmas
+pub mod PlaceLemmas
+pub mod EquationLemmas
+pub mod StepLemmas
+pub mod FactLemmas
+pub mod StoreLemmas
+pub mod LawLemmas

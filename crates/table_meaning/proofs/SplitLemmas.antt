@@ -127,7 +127,7 @@ loaded_says s m z g gpi read =
     let found = contiguous_found s m None (g / 16) z gpi read in
     (found.0, λ k inside. largest_block_is s m None (g / 16) z found.0 k inside ∙ found.1)
 
-start_gpi : (s : SetupData) (m : ℕ → Gpi) (z : Size) (v : ℕ) → largest_block s m None v ≡ Some z → BlockIs s m z (v / words_of s z) (m (16 * block_start s z v))
+pub start_gpi : (s : SetupData) (m : ℕ → Gpi) (z : Size) (v : ℕ) → largest_block s m None v ≡ Some z → BlockIs s m z (v / words_of s z) (m (16 * block_start s z v))
 start_gpi s m z v is = λ k inside.
     let all = largest_block_is s m None v z is in
     all k inside ∙ sym (all (16 * block_start s z v) (ap (λ (n : ℕ). n / words_of s z) (first_granule (block_start s z v)) ∙ first_word (words_of s z) (v / words_of s z) (words_some s z)))

@@ -5,7 +5,9 @@ use Rattle.gpt_descriptors.specs.declared.size.Size.{Size}
 use Rattle.gpt_descriptors.specs.Sizes.{SetupData, words_of}
 use Rattle.gpt_descriptors.specs.Fields.{granules_of}
 use Rattle.gpt_descriptors.specs.Canonical.{largest_block, canonical_word, BlockIs}
-use Rattle.table_meaning.specs.Fusing.{Fusing, Testing, Storing, Ended, Knows}
+use Rattle.table_meaning.specs.declared.fusing.Fusing.{Fusing}
+use Rattle.table_meaning.specs.declared.fusing.Fusing.TheVariants.{Testing, Storing, Ended}
+use Rattle.table_meaning.specs.Fusing.{Knows}
 use Rattle.table_meaning.specs.Equation.{Step, Whole, Splitting, Apart, Merging}
 
 -- a holder has loaded nothing yet or is done; it has loaded its word; it has made k stores of splitting a block of a

@@ -10,13 +10,8 @@ use Rattle.gpt_descriptors.specs.Sizes.{SetupData, words_of, is_permitted}
 use Rattle.gpt_descriptors.specs.Entries.{l1_word}
 use Rattle.gpt_descriptors.specs.Fields.{granules_of}
 use Rattle.gpt_descriptors.specs.Canonical.{largest_block, canonical_word, BlockIs}
-
--- where merging is: before load k of the test of a size, before store k of a block of a size, or ended with the size
--- of the block that was merged, if one was
-pub data Fusing : Type 0 where
-  Testing : Size → ℕ → Fusing
-  Storing : Size → ℕ → Fusing
-  Ended : Option Size → Fusing
+use Rattle.table_meaning.specs.declared.fusing.Fusing.{Fusing}
+use Rattle.table_meaning.specs.declared.fusing.Fusing.TheVariants.{Testing, Storing, Ended}
 
 -- ---- the words that are loaded. 2 MB have `two` words; word `own` is the one around which merging is done.
 
@@ -41,6 +36,10 @@ abbrev pub load_at : ℕ → ℕ → Size → ℕ → ℕ
 load_at two own size.Two k = own / two * two + k
 load_at two own size.ThirtyTwo k = (own / (16 * two) * 16 + beside (own / two % 16) k) * two
 load_at two own size.FiveTwelve k = (own / (16 * (16 * two)) * 16 + beside (own / (16 * two) % 16) k) * (16 * two)
+
+-- the word of store k of a block of a size
+abbrev pub store_at : ℕ → ℕ → Size → ℕ → ℕ
+store_at two own z k = own / block_words two z * block_words two z + k
 
 -- what each load of the test must answer
 abbrev pub needed_word : Gpi → Size → ℕ

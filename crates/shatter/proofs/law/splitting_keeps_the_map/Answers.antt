@@ -1,4 +1,4 @@
-use Rattle.shatter.proofs.SplitLemmas.{split_is_canonical, split_means, split_covers, split_elsewhere}
+use Rattle.shatter.proofs.WordLemmas.{split_is_canonical, split_means, split_covers, split_elsewhere}
 use Rattle.shatter.proofs.law.splitting_keeps_the_map.Goals as goal
 
 pub returns : goal.returns
