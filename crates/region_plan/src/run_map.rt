@@ -1,9 +1,12 @@
-ghost use Rattle.std.specs.Prelude.{◌≡◌, ◌≢◌, ◌↔◌, ℕ, ◌+◌, ◌<◌, ◌≤◌, ◌++◌, List, IsTrue, IfOk, OnOk, OnErr, Some, None, length, replicate, take, drop, slice_get, slice_set, vec_len, vec_capacity};
-ghost use Rattle.std.specs.List.{insert};
+ghost use Rattle.std.specs.Prelude.{◌≡◌, ◌≢◌, ◌↔◌, ℕ, ◌+◌, ◌<◌, ◌≤◌, ◌++◌, List, IsTrue, IfOk, OnOk, OnErr, Some, None, length, replicate, map, take, drop, slice_get, slice_set, vec_len, vec_capacity};
+ghost use Rattle.std.specs.List.{insert, range_with_len};
 ghost use Rattle.gpi_values.specs.declared.gpi.Gpi.{Gpi};
-ghost use Rattle.region_plan.specs.Runs.{AreApart, AreRuns, AreMaximalRuns};
+ghost use Rattle.gpt_descriptors.specs.Sizes.{space_granules};
+ghost use Rattle.region_plan.specs.Regions.{region_map};
+ghost use Rattle.region_plan.specs.Runs.{AreApart, AreRuns, AreMaximalRuns, runs_map};
 ghost use Rattle.region_plan.specs.RunSteps.{IsRunAt, Covers, Follows, Leads, Reaches, then_one, last_gpi, begin_of, BeginsWith};
 
+use crate::planning::Plan;
 use gpt_descriptors::Gpi;
 use std::alloc::{AllocError, Global};
 use std::marker::Model;
@@ -154,6 +157,14 @@ fn set_last(runs: &mut Vec<Run>, at: usize, granule: u64, gpi: Gpi)
 }
 
 impl RunMap {
+    /// The map of so many granules that these runs give.
+    pub(crate) fn of_runs(size: u64, runs: Vec<Run>) -> RunMap
+        requires { AreRuns size runs.items }
+        ensures { result ≡ runs_map size runs.items }
+    {
+        RunMap { size, runs }
+    }
+
     /// A map of so many granules, with any access everywhere.
     pub fn new(alloc: Global, granules: u64) -> Result<RunMap, AllocError>
         ensures { IfOk result (λ m. m ≡ replicate granules Gpi.Any) }
@@ -163,6 +174,24 @@ impl RunMap {
         Ok(RunMap {
             size: granules,
             runs,
+        })
+    }
+
+    /// The region map of a plan, over the granules of its protected space.
+    pub fn of(alloc: Global, plan: &Plan) -> Result<RunMap, AllocError>
+        ensures map { IfOk result (λ m. m ≡ map (region_map plan.now.setup plan.now.regions) (range_with_len 0 (space_granules plan.now.setup))) }
+        ensures size { IfOk result (λ m. length m ≡ space_granules plan.now.setup) }
+    {
+        plan.map().copy(alloc)
+    }
+
+    /// The same map.
+    fn copy(&self, alloc: Global) -> Result<RunMap, AllocError>
+        ensures { IfOk result (λ m. m ≡ self.now) }
+    {
+        Ok(RunMap {
+            size: self.size,
+            runs: Vec::from_slice(alloc, &self.runs)?,
         })
     }
 
