@@ -1,10 +1,10 @@
 -- Regions laid one after another in the order of their bases.
-use Rattle.std.proofs.Common.{◌≡◌, ℕ, zero, suc, ◌+◌, ◌*◌, ◌/◌, ◌%◌, ◌≤◌, ◌<◌, Bool, true, false, not, cond, eqb, leb, ltb, ◌||◌, List, [], ◌∷◌, ◌++◌, length, map, get_or, slice_get, Option, Some, None, Result, Ok, Err, refl, sym, ap, ◌∙◌, inl, inr, arith}
+use Rattle.std.proofs.Common.{◌≡◌, ℕ, suc, ◌+◌, ◌*◌, ◌/◌, ◌%◌, ◌≤◌, ◌<◌, Bool, true, false, not, cond, eqb, leb, ltb, ◌||◌, List, [], ◌∷◌, ◌++◌, length, map, get_or, slice_get, Option, Some, None, Result, Ok, Err, refl, sym, ap, ◌∙◌, inl, inr, arith}
 use Rattle.std.specs.Prelude.{IfOk, IfErr, ◌⊎◌}
-use Rattle.std.specs.List.{find, position, position_or_len, sum_by, AllByRecursion, All, range_with_len}
+use Rattle.std.specs.List.{find, position, position_or_len, AllByRecursion, All, range_with_len}
 use Rattle.std.specs.List.Sorted.{IsPermutation}
-use Rattle.std.specs.Option.{option_map, option_or}
-use Rattle.std.proofs.lemmas.Bool.{cases_lt, cases_Bool, le-leb, lt-leb, lt-ltb, le-ltb, leb-true, ltb-true, ltb-false, eqb-true, not-false, and_parts, and_from, or_parts, false_from_ne_true}
+use Rattle.std.specs.Option.{option_or}
+use Rattle.std.proofs.lemmas.Bool.{cases_lt, cases_Bool, le-leb, lt-ltb, le-ltb, leb-true, ltb-true, ltb-false, eqb-true, not-false, and_parts, and_from, false_from_ne_true}
 use Rattle.std.proofs.lemmas.Nat.{mul-le, div-add-mod', div_below}
 use Rattle.std.proofs.lemmas.List.Folds.{find-append}
 use Rattle.std.proofs.lemmas.List.Recursion.{is_sum_by}
@@ -16,7 +16,7 @@ use Rattle.gpi_values.specs.declared.gpi.Gpi.{Gpi}
 use Rattle.gpi_values.specs.declared.gpi.Gpi.TheVariants as gpi
 use Rattle.gpi_values.specs.Values.{value_of}
 use Rattle.gpi_values.proofs.ValueLemmas.{value_one}
-use Rattle.gpt_descriptors.specs.Sizes.{SetupData, granule_bytes, word_bytes, table_words, region_bytes, space_bytes, space_granules}
+use Rattle.gpt_descriptors.specs.Sizes.{SetupData, granule_bytes, table_words, region_bytes, space_bytes, space_granules}
 use Rattle.gpt_descriptors.proofs.SizeLemmas.{granule_low, word_is, table_whole}
 use Rattle.region_plan.specs.declared.region.Region.{Region}
 use Rattle.region_plan.specs.declared.run_map.Run.{Run}

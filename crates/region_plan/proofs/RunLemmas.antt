@@ -1,5 +1,5 @@
 -- Runs: the GPI of a granule, runs in a row, and one more run.
-use Rattle.std.proofs.Common.{◌≡◌, ◌≢◌, ℕ, zero, suc, ◌+◌, ◌-◌, ◌≤◌, ◌<◌, Bool, true, false, cond, leb, ltb, List, [], ◌∷◌, ◌++◌, length, map, get_or, take, drop, set, replicate, Option, IsTrue, Some, None, slice_get, refl, sym, ap, ◌∙◌, add-one, inl, inr, arith, length-append}
+use Rattle.std.proofs.Common.{◌≡◌, ◌≢◌, ℕ, zero, suc, ◌+◌, ◌-◌, ◌≤◌, ◌<◌, Bool, true, false, cond, leb, ltb, List, [], ◌∷◌, ◌++◌, length, map, get_or, take, drop, set, replicate, Option, IsTrue, Some, None, slice_get, refl, sym, ap, ◌∙◌, add-one, inl, inr, arith}
 use Rattle.std.specs.List.{range_with_len, insert, remove}
 use Rattle.std.specs.List.Sorted.{IsNonDecreasingBy, IsPartitionPoint}
 use Rattle.std.proofs.lemmas.Bool.{cases_lt, cases_eq, le-leb, lt-leb, lt-ltb, le-ltb, leb-true, leb-false}
@@ -397,7 +397,7 @@ follows_removed granule end i own new xs le with' first apart =
           let e : Run = record { first = 0; gpi = new } in
           let rest : drop i (remove xs i) ≡ drop (i + 1) xs = drop_at (take i xs) (drop (suc i) xs) i (length-take-le i xs le) ∙ ap (λ (n : ℕ). drop n xs) (sym (add-one i)) in
           rw (rest, drop_more xs i e lt) (
-            follows_joined granule end own new (get_or xs i e) (drop (i + 1) xs) (rw (drop_more xs i e lt) at with') (rw (drop_more xs i e lt) at first) (rw (drop_more xs i e lt) at apart))
+          follows_joined granule end own new (get_or xs i e) (drop (i + 1) xs) (rw (drop_more xs i e lt) at with') (rw (drop_more xs i e lt) at first) (rw (drop_more xs i e lt) at apart))
       | inr past ↦ absurd (rw (drop_all i xs past) at with')
     ]
 
@@ -423,9 +423,11 @@ changed granule end i own new xs ys zs leading e runs at inside mine same follow
     let apart : AreApart (granule + 1) (Some own) end after = rw mine (after_found end granule i xs e runs at) in
     let whole : xs ≡ before ++ after = sym (take-append-drop (i + 1) xs) in
     let known : (k : ℕ) → granule ≤ k → gpi_after gpi.Any before k ≡ own = λ k le. front_gpi k i xs e at.within (let begun = at.begun e in omega arith) ∙ sym mine in
-    rw is (changed_runs granule end own new before leading after later inside leads' follows,
+    rw is (
+      changed_runs granule end own new before leading after later inside leads' follows,
       set_map end granule new (gpi_after gpi.Any xs) (gpi_after gpi.Any (leading ++ later)) inside (changed_own granule end own new before leading after later leads' follows)
-      (λ k lt other. changed_gpi granule end k own new before leading after later apart leads' follows known lt other ∙ ap (λ (rs : List Run). gpi_after gpi.Any rs k) (sym whole)))
+          (λ k lt other. changed_gpi granule end k own new before leading after later apart leads' follows known lt other ∙ ap (λ (rs : List Run). gpi_after gpi.Any rs k) (sym whole)),
+    )
 
 -- a granule that has the GPI already
 pub set_again : (end g i : ℕ) (xs : List Run) (e : Run) → g < end → IsRunAt g xs i → runs_map end xs ≡ set (runs_map end xs) g (get_or xs i e).gpi

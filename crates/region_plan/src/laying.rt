@@ -41,11 +41,7 @@ fn sorted(alloc: Global, regions: &[Region]) -> Result<Vec<Region>, AllocError>
 }
 
 /// The region map as runs, where no two regions share a granule.
-fn lay(
-    alloc: Global,
-    setup: &Setup,
-    regions: &[Region],
-) -> Result<Option<RunMap>, AllocError>
+fn lay(alloc: Global, setup: &Setup, regions: &[Region]) -> Result<Option<RunMap>, AllocError>
     requires { ArePlaced setup.now regions.now }
     ensures apart { IfOk result (λ found. OnSome found (first_overlap setup.now 0 regions.now ≡ None)) }
     ensures map { IfOk result (λ found. IfSome found (λ m. m ≡ map (region_map setup.now regions.now) (range_with_len 0 (space_granules setup.now)))) }

@@ -77,12 +77,7 @@ fn begin_of(runs: &[Run], end: u64) -> u64
 }
 
 /// Adds the granules from `at` up to `end`, with one GPI.
-pub fn add_granules(
-    runs: &mut Vec<Run>,
-    at: u64,
-    end: u64,
-    gpi: Gpi,
-) -> Result<(), AllocError>
+pub fn add_granules(runs: &mut Vec<Run>, at: u64, end: u64, gpi: Gpi) -> Result<(), AllocError>
     requires { at ≤ end }
     ensures { OnOk result ((f : ℕ → Gpi) → Covers at f runs.old.items → Covers end (then_one at f gpi) runs.new.items) }
 {
@@ -109,14 +104,7 @@ fn insert_run(runs: &mut Vec<Run>, at: usize, run: Run)
 
 /// Parts the granules after one whose GPI changes from it, or joins them to it where they have its
 /// new GPI. The runs from `next` on are those that begin after it.
-fn part_after(
-    runs: &mut Vec<Run>,
-    next: usize,
-    granule: u64,
-    own: Gpi,
-    new: Gpi,
-    size: u64,
-)
+fn part_after(runs: &mut Vec<Run>, next: usize, granule: u64, own: Gpi, new: Gpi, size: u64)
     requires place { next ≤ vec_len runs.old }
     requires room { vec_len runs.old < vec_capacity runs.old }
     requires inside { granule < size }
@@ -148,7 +136,14 @@ fn set_last(runs: &mut Vec<Run>, at: usize, granule: u64, gpi: Gpi)
     ensures { (leading : List Run) × (runs.new.items ≡ leading ++ drop (at + 1) runs.old.items) × Leads granule gpi (take (at + 1) runs.old.items) leading }
 {
     if runs[at].first < granule {
-        insert_run(runs, at + 1, Run { first: granule, gpi });
+        insert_run(
+            runs,
+            at + 1,
+            Run {
+                first: granule,
+                gpi,
+            },
+        );
     } else if ends_with(&runs[..at], gpi) {
         runs.remove(at);
     } else {

@@ -235,5 +235,5 @@ words_joined s regions first w v low high =
     let start : w ≡ first + (w - first) = omega arith in
     let count : v - first ≡ (w - first) + (v - w) = omega arith in
     rw count (
-      ap (λ (a : ℕ). granules_words s regions first (w - first) ++ granules_words s regions a (v - w)) start
-      ∙ sym (map_range-append (λ a. packed (region_map s regions) (16 * a) 16) first (w - first) (v - w)))
+    ap (λ (a : ℕ). granules_words s regions first (w - first) ++ granules_words s regions a (v - w)) start
+    ∙ sym (map_range-append (λ a. packed (region_map s regions) (16 * a) 16) first (w - first) (v - w)))

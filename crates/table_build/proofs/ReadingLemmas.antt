@@ -1,5 +1,5 @@
 -- Going over runs once.
-use Rattle.std.proofs.Common.{◌≡◌, ◌≢◌, ℕ, zero, suc, ◌+◌, ◌*◌, ◌≤◌, ◌<◌, List, [], ◌∷◌, length, map, get_or, drop, Option, Some, None, refl, sym, ap, ◌∙◌, inl, inr, arith}
+use Rattle.std.proofs.Common.{◌≡◌, ℕ, ◌+◌, ◌*◌, ◌≤◌, ◌<◌, List, [], ◌∷◌, length, map, get_or, drop, Some, refl, sym, ap, ◌∙◌, inl, inr, arith}
 use Rattle.std.specs.Prelude.{◌⊎◌}
 use Rattle.std.specs.List.{range_with_len}
 use Rattle.std.proofs.lemmas.Bool.{le-leb}
@@ -12,7 +12,7 @@ use Rattle.gpt_descriptors.proofs.SizeLemmas.{table_words_low}
 use Rattle.region_plan.specs.declared.region.Region.{Region}
 use Rattle.region_plan.specs.declared.run_map.Run.{Run}
 use Rattle.region_plan.specs.Regions.{region_map}
-use Rattle.region_plan.specs.Runs.{gpi_after, runs_map, BeginAtZero, AreApart, AreMaximalRuns}
+use Rattle.region_plan.specs.Runs.{gpi_after, runs_map, BeginAtZero, AreMaximalRuns}
 use Rattle.region_plan.specs.RunSteps.{begin_of}
 use Rattle.region_plan.proofs.RunLemmas.{gpi_later}
 use Rattle.region_plan.proofs.LayingLemmas.{mapped_length}
@@ -34,8 +34,8 @@ reads_next m g size x y ys begun reads = record {
 pub reads_drop : (m : ℕ → Gpi) (g size at : ℕ) (xs : List Run) (e : Run) → at + 1 < length xs → (get_or xs (at + 1) e).first ≤ g → Reads m g size (drop at xs) → Reads m g size (drop (at + 1) xs)
 reads_drop m g size at xs e lt begun reads =
     rw (drop_more xs (at + 1) e lt) (
-      reads_next m g size (get_or xs at e) (get_or xs (at + 1) e) (drop (at + 1 + 1) xs) begun
-      (rw (drop_more xs at e (let low : at < length xs = omega arith in low), drop_more xs (at + 1) e lt) at reads))
+    reads_next m g size (get_or xs at e) (get_or xs (at + 1) e) (drop (at + 1 + 1) xs) begun
+    (rw (drop_more xs at e (let low : at < length xs = omega arith in low), drop_more xs (at + 1) e lt) at reads))
 
 pub begun_drop : (g at : ℕ) (xs : List Run) (e : Run) → at < length xs → (get_or xs at e).first ≤ g → HasBegun g (drop at xs)
 begun_drop g at xs e lt begun = rw (drop_more xs at e lt) begun
@@ -65,8 +65,8 @@ run_from m g size x (y ∷ ys) inside later reads = record {
   other = λ lt same.
       let begun : x.first ≤ y.first = omega (arith, reads.apart.3.0) in
       let own : m y.first ≡ y.gpi =
-          sym (reads.gpis y.first (omega arith) lt)
-          ∙ rw (le-leb x.first y.first begun, le-leb y.first y.first (let self : y.first ≤ y.first = omega arith in self)) (gpi_later y.gpi ys (y.first + 1) size y.first (Some y.gpi) reads.apart.3.3 (omega arith)) in
+      sym (reads.gpis y.first (omega arith) lt)
+      ∙ rw (le-leb x.first y.first begun, le-leb y.first y.first (let self : y.first ≤ y.first = omega arith in self)) (gpi_later y.gpi ys (y.first + 1) size y.first (Some y.gpi) reads.apart.3.3 (omega arith)) in
       reads.apart.3.2 (ap Some (sym same ∙ own));
 }
 
@@ -136,6 +136,7 @@ pub run_read : (s : SetupData) (regions : List Region) (w g : ℕ) (old new : Cu
     → IsAt s regions w new × IsRunFrom (region_map s regions) (16 * w) (space_granules s) one stop
 run_read s regions w g old new one stop is inside at same kept run =
     let m = region_map s regions in
-    let reads : Reads m g old.size old.rest.now = rw (is, at.size) at.reads in
-    (record { size = same ∙ at.size; reads = rw (is, at.size) at (kept m reads) },
-      rw (is, at.size) at (run m reads (rw (is, at.size) (omega arith))))
+    let reads : Reads m g old.size old.rest.now = rw (is, at.size) at.reads in (
+      record { size = same ∙ at.size; reads = rw (is, at.size) at (kept m reads) },
+      rw (is, at.size) at (run m reads (rw (is, at.size) (omega arith))),
+    )

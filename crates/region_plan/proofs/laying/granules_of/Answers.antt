@@ -1,4 +1,3 @@
-use Rattle.std.proofs.Common.{◌≡◌}
 use Rattle.region_plan.proofs.LayingLemmas.{region_end}
 use Rattle.region_plan.proofs.laying.granules_of.Goals as goal
 

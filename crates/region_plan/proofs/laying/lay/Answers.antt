@@ -55,5 +55,5 @@ returns-clause-map c =
     let covers = c.in_ok-add_granules-3.ensures (region_map c.args.setup.now items) (rw all at c.loop-region.invariant.covers) in
     c.of_runs.ensures
     ∙ rw c.space_granules-size.ensures.value (
-      laid_is_map c.args.setup.now c.loop-region.at (space_granules c.args.setup.now) c.args.regions.now items c.add_granules-2.new.runs.items moved
-      (rw all at c.loop-region.invariant.laid) (rw c.space_granules-size.ensures.value at covers))
+    laid_is_map c.args.setup.now c.loop-region.at (space_granules c.args.setup.now) c.args.regions.now items c.add_granules-2.new.runs.items moved
+    (rw all at c.loop-region.invariant.laid) (rw c.space_granules-size.ensures.value at covers))

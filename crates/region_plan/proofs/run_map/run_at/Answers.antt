@@ -1,4 +1,4 @@
-use Rattle.std.proofs.Common.{leb, rules, arith, ◌<◌}
+use Rattle.std.proofs.Common.{leb, rules, ◌<◌}
 use Rattle.std.proofs.lemmas.List.Sorted.{IsPartitionPoint-from_clause, IsPartitionedBy-leb}
 use Rattle.region_plan.specs.declared.run_map.Run.{Run}
 use Rattle.region_plan.proofs.RunLemmas.{firsts_rise, some_run, run_found}

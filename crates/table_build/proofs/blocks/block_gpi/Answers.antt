@@ -19,7 +19,7 @@ returns-then-end-first-clause-exact c =
     let words : c.words_of-words.result ≡ words_of s c.args.size = c.words_of-words.ensures.value ∙ ap (λ (t : SetupData). words_of t c.args.size) c.setup-setup.ensures.setup in
     let inside : c.args.b * words_of s c.args.size < space_words s = omega (arith, words_some s c.args.size, c.requires.inside) in
     let read = run_read s regions (c.args.b * words_of s c.args.size) (16 * (c.args.b * c.words_of-words.result)) c.args.cursor.now c.run_of-gpi.new.self c.run_of-gpi.result.0 c.run_of-gpi.result.1
-        (ap (λ (n : ℕ). 16 * (c.args.b * n)) words) inside c.requires.at c.run_of-gpi.ensures.size c.run_of-gpi.ensures.reads c.run_of-gpi.ensures.run in
+    (ap (λ (n : ℕ). 16 * (c.args.b * n)) words) inside c.requires.at c.run_of-gpi.ensures.size c.run_of-gpi.ensures.reads c.run_of-gpi.ensures.run in
     let ends : c.run_of-gpi.result.1 < 16 * (c.args.b * words_of s c.args.size) + 16 * words_of s c.args.size = rw words at c.if-end-first.true in
     sym (block_broken s (region_map s regions) c.args.size c.args.b c.run_of-gpi.result.1 c.run_of-gpi.result.0 c.requires.inside read.1 ends)
 
@@ -30,7 +30,7 @@ returns-then-end-first-clause-at c =
     let words : c.words_of-words.result ≡ words_of s c.args.size = c.words_of-words.ensures.value ∙ ap (λ (t : SetupData). words_of t c.args.size) c.setup-setup.ensures.setup in
     let inside : c.args.b * words_of s c.args.size < space_words s = omega (arith, words_some s c.args.size, c.requires.inside) in
     let read = run_read s regions (c.args.b * words_of s c.args.size) (16 * (c.args.b * c.words_of-words.result)) c.args.cursor.now c.run_of-gpi.new.self c.run_of-gpi.result.0 c.run_of-gpi.result.1
-        (ap (λ (n : ℕ). 16 * (c.args.b * n)) words) inside c.requires.at c.run_of-gpi.ensures.size c.run_of-gpi.ensures.reads c.run_of-gpi.ensures.run in
+    (ap (λ (n : ℕ). 16 * (c.args.b * n)) words) inside c.requires.at c.run_of-gpi.ensures.size c.run_of-gpi.ensures.reads c.run_of-gpi.ensures.run in
     read.0
 
 pub returns-clause-exact : goal.returns-clause-exact
@@ -40,7 +40,7 @@ returns-clause-exact c =
     let words : c.words_of-words.result ≡ words_of s c.args.size = c.words_of-words.ensures.value ∙ ap (λ (t : SetupData). words_of t c.args.size) c.setup-setup.ensures.setup in
     let inside : c.args.b * words_of s c.args.size < space_words s = omega (arith, words_some s c.args.size, c.requires.inside) in
     let read = run_read s regions (c.args.b * words_of s c.args.size) (16 * (c.args.b * c.words_of-words.result)) c.args.cursor.now c.run_of-gpi.new.self c.run_of-gpi.result.0 c.run_of-gpi.result.1
-        (ap (λ (n : ℕ). 16 * (c.args.b * n)) words) inside c.requires.at c.run_of-gpi.ensures.size c.run_of-gpi.ensures.reads c.run_of-gpi.ensures.run in
+    (ap (λ (n : ℕ). 16 * (c.args.b * n)) words) inside c.requires.at c.run_of-gpi.ensures.size c.run_of-gpi.ensures.reads c.run_of-gpi.ensures.run in
     let covers : 16 * (c.args.b * words_of s c.args.size) + 16 * words_of s c.args.size ≤ c.run_of-gpi.result.1 = rw words at c.if-end-first.false in
     let permitted : is_permitted s.max c.args.size ≡ true = cc (c.permits.ensures, c.max.ensures, c.setup-setup.ensures.setup) in
     sym (block_covered s (region_map s regions) c.args.size c.args.b c.run_of-gpi.result.1 c.run_of-gpi.result.0 permitted read.1 covers)
@@ -52,7 +52,7 @@ returns-clause-gpi c =
     let words : c.words_of-words.result ≡ words_of s c.args.size = c.words_of-words.ensures.value ∙ ap (λ (t : SetupData). words_of t c.args.size) c.setup-setup.ensures.setup in
     let inside : c.args.b * words_of s c.args.size < space_words s = omega (arith, words_some s c.args.size, c.requires.inside) in
     let read = run_read s regions (c.args.b * words_of s c.args.size) (16 * (c.args.b * c.words_of-words.result)) c.args.cursor.now c.run_of-gpi.new.self c.run_of-gpi.result.0 c.run_of-gpi.result.1
-        (ap (λ (n : ℕ). 16 * (c.args.b * n)) words) inside c.requires.at c.run_of-gpi.ensures.size c.run_of-gpi.ensures.reads c.run_of-gpi.ensures.run in
+    (ap (λ (n : ℕ). 16 * (c.args.b * n)) words) inside c.requires.at c.run_of-gpi.ensures.size c.run_of-gpi.ensures.reads c.run_of-gpi.ensures.run in
     let first : ℕ = 16 * (c.args.b * words_of s c.args.size) in
     sym (read.1.same first (omega arith) (omega (arith, read.1.after)))
 
@@ -63,5 +63,5 @@ returns-clause-at c =
     let words : c.words_of-words.result ≡ words_of s c.args.size = c.words_of-words.ensures.value ∙ ap (λ (t : SetupData). words_of t c.args.size) c.setup-setup.ensures.setup in
     let inside : c.args.b * words_of s c.args.size < space_words s = omega (arith, words_some s c.args.size, c.requires.inside) in
     let read = run_read s regions (c.args.b * words_of s c.args.size) (16 * (c.args.b * c.words_of-words.result)) c.args.cursor.now c.run_of-gpi.new.self c.run_of-gpi.result.0 c.run_of-gpi.result.1
-        (ap (λ (n : ℕ). 16 * (c.args.b * n)) words) inside c.requires.at c.run_of-gpi.ensures.size c.run_of-gpi.ensures.reads c.run_of-gpi.ensures.run in
+    (ap (λ (n : ℕ). 16 * (c.args.b * n)) words) inside c.requires.at c.run_of-gpi.ensures.size c.run_of-gpi.ensures.reads c.run_of-gpi.ensures.run in
     read.0

@@ -1,4 +1,3 @@
-use Rattle.std.proofs.Common.{◌≡◌, ◌*◌}
 use Rattle.gpt_descriptors.specs.declared.size.Size.TheVariants as size
 use Rattle.gpt_descriptors.specs.Sizes.{words_of, table_words}
 use Rattle.gpt_descriptors.proofs.SizeLemmas.{table_is}

@@ -9,7 +9,7 @@ pub loop-k-init : goal.loop-k-init
 loop-k-init c = record {
   words = search rules;
   at = at_first c.args.plan.now.setup c.args.plan.now.regions c.args.b (words_of c.args.plan.now.setup size.ThirtyTwo) (words_of c.args.plan.now.setup size.FiveTwelve) c.args.cursor.now
-    (five_twelve_is c.args.plan.now.setup) c.requires.at;
+      (five_twelve_is c.args.plan.now.setup) c.requires.at;
 }
 
 pub push_thirty_two-requires-clause-inside : goal.push_thirty_two-requires-clause-inside

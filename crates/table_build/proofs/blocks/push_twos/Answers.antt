@@ -9,7 +9,7 @@ pub loop-k-init : goal.loop-k-init
 loop-k-init c = record {
   words = search rules;
   at = at_first c.args.plan.now.setup c.args.plan.now.regions c.args.b (words_of c.args.plan.now.setup size.Two) (words_of c.args.plan.now.setup size.ThirtyTwo) c.args.cursor.now
-    (thirty_two_is c.args.plan.now.setup) c.requires.at;
+      (thirty_two_is c.args.plan.now.setup) c.requires.at;
 }
 
 pub push_two-requires-clause-inside : goal.push_two-requires-clause-inside

@@ -1,6 +1,5 @@
-use Rattle.std.proofs.Common.{◌≤◌, ◌<◌, ◌-◌, ℕ, length, get_or, drop}
+use Rattle.std.proofs.Common.{◌<◌, ◌-◌, ℕ, length, drop}
 use Rattle.gpi_values.specs.declared.gpi.Gpi.{Gpi}
-use Rattle.region_plan.specs.declared.run_map.Run.{Run}
 use Rattle.table_build.specs.Reading.{HasBegun, Reads}
 use Rattle.table_build.proofs.cursor.skip.Given as goal
 

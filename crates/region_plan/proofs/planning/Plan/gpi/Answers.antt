@@ -1,5 +1,5 @@
-use Rattle.std.proofs.Common.{◌≡◌, ◌/◌, length, sym, ap, subst}
-use Rattle.gpt_descriptors.specs.Sizes.{SetupData, granule_bytes, space_granules}
+use Rattle.std.proofs.Common.{◌≡◌, ◌/◌, sym, ap, subst}
+use Rattle.gpt_descriptors.specs.Sizes.{granule_bytes, space_granules}
 use Rattle.region_plan.specs.PlanData.{PlanData}
 use Rattle.region_plan.specs.Regions.{region_map}
 use Rattle.region_plan.proofs.LayingLemmas.{granule_inside, mapped_at, mapped_length}

@@ -1,5 +1,4 @@
-use Rattle.std.proofs.Common.{◌≡◌, ◌≤◌, ◌<◌, Some, None, inl, inr, sym, ap, ◌∙◌, arith}
-use Rattle.region_plan.specs.declared.refusing.PlanError.TheVariants as refused
+use Rattle.std.proofs.Common.{◌≡◌, ◌≤◌, ◌<◌, Some, None, inl, inr, arith}
 use Rattle.region_plan.specs.declared.refusing.PlanError.{PlanError}
 use Rattle.region_plan.specs.Regions.{tables_needed}
 use Rattle.region_plan.specs.Refusals.{refusal}

@@ -35,7 +35,7 @@ set_last-requires-clause-own c =
     let other : c.index.result.now.gpi ≢ c.args.gpi = search rules in
     let mine : c.index.result.now.gpi ≡ (get_or c.self.inside.runs.items c.run_at-at.result c.index.result.now).gpi = ap (λ (r : Run). r.gpi) c.index.ensures in
     rw (c.part_after.ensures.before, c.reserve.ensures.items) (
-      front_found c.self.inside.size c.args.granule c.run_at-at.result c.args.gpi c.self.inside.runs.items c.index.result.now c.self.invariant at (λ same. other (mine ∙ same)))
+    front_found c.self.inside.size c.args.granule c.run_at-at.result c.args.gpi c.self.inside.runs.items c.index.result.now c.self.invariant at (λ same. other (mine ∙ same)))
 
 pub invariant_of-self-2 : goal.invariant_of-self-2
 invariant_of-self-2 c =
@@ -43,8 +43,8 @@ invariant_of-self-2 c =
     let at = rw c.deref.ensures.value at c.run_at-at.ensures in
     let follows = rw c.reserve.ensures.items at c.part_after.ensures.follows in
     (changed c.args.granule c.self.inside.size c.run_at-at.result c.index.result.now.gpi c.args.gpi c.self.inside.runs.items c.part_after.new.runs.items c.set_last.new.runs.items
-        c.set_last.ensures.0 c.index.result.now c.self.invariant at (omega arith) (ap (λ (r : Run). r.gpi) c.index.ensures)
-        (c.part_after.ensures.before ∙ ap (take (c.run_at-at.result + 1)) c.reserve.ensures.items) follows c.set_last.ensures.1 c.set_last.ensures.2).0
+    c.set_last.ensures.0 c.index.result.now c.self.invariant at (omega arith) (ap (λ (r : Run). r.gpi) c.index.ensures)
+    (c.part_after.ensures.before ∙ ap (take (c.run_at-at.result + 1)) c.reserve.ensures.items) follows c.set_last.ensures.1 c.set_last.ensures.2).0
 
 pub returns-clause-ok : goal.returns-clause-ok
 returns-clause-ok c =
@@ -52,6 +52,6 @@ returns-clause-ok c =
     let at = rw c.deref.ensures.value at c.run_at-at.ensures in
     let follows = rw c.reserve.ensures.items at c.part_after.ensures.follows in
     (changed c.args.granule c.self.inside.size c.run_at-at.result c.index.result.now.gpi c.args.gpi c.self.inside.runs.items c.part_after.new.runs.items c.set_last.new.runs.items
-        c.set_last.ensures.0 c.index.result.now c.self.invariant at (omega arith) (ap (λ (r : Run). r.gpi) c.index.ensures)
-        (c.part_after.ensures.before ∙ ap (take (c.run_at-at.result + 1)) c.reserve.ensures.items) follows c.set_last.ensures.1 c.set_last.ensures.2).1
+    c.set_last.ensures.0 c.index.result.now c.self.invariant at (omega arith) (ap (λ (r : Run). r.gpi) c.index.ensures)
+    (c.part_after.ensures.before ∙ ap (take (c.run_at-at.result + 1)) c.reserve.ensures.items) follows c.set_last.ensures.1 c.set_last.ensures.2).1
     ∙ ap (λ (m : List Gpi). set m c.args.granule c.args.gpi) c.self.view_is

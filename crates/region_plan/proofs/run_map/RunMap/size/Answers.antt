@@ -1,4 +1,3 @@
-use Rattle.std.proofs.Common.{length, sym, ap, ◌∙◌}
 use Rattle.region_plan.proofs.RunLemmas.{runs_length}
 use Rattle.region_plan.proofs.run_map.RunMap.size.Goals as goal
 
