@@ -1,7 +1,6 @@
-ghost use Rattle.std.specs.Prelude.{◌≡◌, ℕ, ◌+◌, ◌<◌, ◌≤◌, Bool, false, IfOk, IfErr, OnOk, IfSome, OnSome, Some, None, map, IsPermutation};
-ghost use Rattle.std.specs.List.{range_with_len};
+ghost use Rattle.std.specs.Prelude.{◌≡◌, ℕ, ◌+◌, ◌<◌, ◌≤◌, Bool, false, IfOk, IfErr, OnOk, IfSome, OnSome, Some, None, IsPermutation};
 ghost use Rattle.gpt_descriptors.specs.Sizes.{space_granules};
-ghost use Rattle.region_plan.specs.Regions.{region_map, first_granule, granule_count};
+ghost use Rattle.region_plan.specs.Regions.{region_gpis, first_granule, granule_count};
 ghost use Rattle.region_plan.specs.Refusals.{is_outside, first_overlap, ArePlaced};
 
 use crate::refusing::overlap;
@@ -44,7 +43,7 @@ fn sorted(alloc: Global, regions: &[Region]) -> Result<Vec<Region>, AllocError>
 fn lay(alloc: Global, setup: &Setup, regions: &[Region]) -> Result<Option<RunMap>, AllocError>
     requires { ArePlaced setup.now regions.now }
     ensures apart { IfOk result (λ found. OnSome found (first_overlap setup.now 0 regions.now ≡ None)) }
-    ensures map { IfOk result (λ found. IfSome found (λ m. m ≡ map (region_map setup.now regions.now) (range_with_len 0 (space_granules setup.now)))) }
+    ensures map { IfOk result (λ found. IfSome found (λ m. m ≡ region_gpis setup.now regions.now)) }
 {
     let size = space_granules(setup);
     let sorted = sorted(alloc, regions)?;
@@ -63,7 +62,8 @@ fn lay(alloc: Global, setup: &Setup, regions: &[Region]) -> Result<Option<RunMap
     Ok(Some(RunMap::of_runs(size, runs)))
 }
 
-/// The region map as runs, `None` where memory ran out, or the first two regions that share a granule.
+/// The region map as runs, `None` where memory ran out, or the first two regions that share a
+/// granule.
 pub fn laid_map(
     alloc: Global,
     setup: &Setup,
@@ -71,7 +71,7 @@ pub fn laid_map(
 ) -> Result<Option<RunMap>, (u32, u32)>
     requires { ArePlaced setup.now regions.now }
     ensures apart { OnOk result (first_overlap setup.now 0 regions.now ≡ None) }
-    ensures map { IfOk result (λ found. IfSome found (λ m. m ≡ map (region_map setup.now regions.now) (range_with_len 0 (space_granules setup.now)))) }
+    ensures map { IfOk result (λ found. IfSome found (λ m. m ≡ region_gpis setup.now regions.now)) }
     ensures shared { IfErr result (λ pair. first_overlap setup.now 0 regions.now ≡ Some pair) }
 {
     if let Ok(Some(map)) = lay(alloc, setup, regions) {

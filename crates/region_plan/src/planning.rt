@@ -1,7 +1,7 @@
-ghost use Rattle.std.specs.Prelude.{◌≡◌, ◌/◌, ◌<◌, ◌≤◌, IfOk, IfErr, OnOk, None, Some, ◌⊎◌, map};
-ghost use Rattle.std.specs.List.{find, range_with_len};
-ghost use Rattle.gpt_descriptors.specs.Sizes.{granule_bytes, space_bytes, space_granules};
-ghost use Rattle.region_plan.specs.Regions.{gpi_or_any, region_map, needs_table, tables_needed, touches};
+ghost use Rattle.std.specs.Prelude.{◌≡◌, ◌/◌, ◌<◌, ◌≤◌, IfOk, IfErr, OnOk, None, Some, ◌⊎◌};
+ghost use Rattle.std.specs.List.{find};
+ghost use Rattle.gpt_descriptors.specs.Sizes.{granule_bytes, space_bytes};
+ghost use Rattle.region_plan.specs.Regions.{gpi_or_any, region_gpis, region_map, needs_table, tables_needed, touches};
 ghost use Rattle.region_plan.specs.Refusals.{refusal};
 ghost use Rattle.region_plan.specs.Outcome.{IsRefusal};
 
@@ -132,7 +132,7 @@ impl Plan {
 
     /// The region map, over the granules of the protected space.
     pub fn map(&self) -> &RunMap
-        ensures { result.now ≡ map (region_map self.now.setup self.now.regions) (range_with_len 0 (space_granules self.now.setup)) }
+        ensures { result.now ≡ region_gpis self.now.setup self.now.regions }
     {
         &self.map
     }
