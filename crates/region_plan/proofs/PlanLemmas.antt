@@ -88,11 +88,11 @@ map_none : {A B : Type 0} (f : A → B) (o : Option A) → option_map f o ≡ No
 map_none f (Some x) e = absurd cc
 map_none f None e = refl
 
-cond_none : (b : Bool) (n : ℕ) → cond b (Some n) None ≡ None → b ≡ false
+pub cond_none : (b : Bool) (n : ℕ) → cond b (Some n) None ≡ None → b ≡ false
 cond_none true n e = absurd cc
 cond_none false n e = refl
 
-none_passes : (p : Region → Bool) (xs : List Region) → length xs ≤ position_or_len p xs → AllByRecursion (λ r. p r ≡ false) xs
+pub none_passes : (p : Region → Bool) (xs : List Region) → length xs ≤ position_or_len p xs → AllByRecursion (λ r. p r ≡ false) xs
 none_passes p [] le = tt
 none_passes p (x ∷ xs) le =
     elim (cases_Bool (p x)) [

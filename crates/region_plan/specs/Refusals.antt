@@ -1,5 +1,5 @@
 -- Which lists of regions are refused: the first rule that fails, each at its least index.
-use Rattle.std.specs.Prelude.{ℕ, ◌+◌, ◌%◌, Bool, true, false, ◌&&◌, ◌||◌, not, List, [], ◌∷◌, length, Option, Some, None, ◌==◌, nat_lt, position}
+use Rattle.std.specs.Prelude.{◌≡◌, ◌≤◌, ℕ, ◌+◌, ◌%◌, Bool, true, false, ◌&&◌, ◌||◌, not, List, [], ◌∷◌, length, Option, Some, None, ◌==◌, nat_lt, position}
 use Rattle.std.specs.Option.{option_map, option_or}
 use Rattle.gpt_descriptors.specs.Sizes.{SetupData, granule_bytes, region_bytes, space_bytes}
 use Rattle.region_plan.specs.declared.region.Region.{Region}
@@ -30,6 +30,14 @@ abbrev pub first_overlap : SetupData → ℕ → List Region → Option (ℕ × 
 first_overlap s n [] = None
 first_overlap s n (r ∷ rs) =
     option_or (option_map (λ k. (n, n + 1 + k)) (position (do_share s r) rs)) (first_overlap s (n + 1) rs)
+
+-- what the rules before that on overlaps say: 1 to 256 regions, each aligned, inside and of a fitting kind
+pub record ArePlaced (s : SetupData) (regions : List Region) : Type 0 where
+  pub some : (length regions == 0) ≡ false
+  pub few : length regions ≤ 256
+  pub aligned : position (is_unaligned s) regions ≡ None
+  pub inside : position (is_outside s) regions ≡ None
+  pub blocks : position is_no_block regions ≡ None
 
 -- the error where the test holds
 abbrev pub where_true : Bool → PlanError → Option PlanError

@@ -5,7 +5,7 @@ use Rattle.gpi_values.specs.declared.gpi.Gpi.{Gpi}
 use Rattle.gpi_values.specs.declared.gpi.Gpi.TheVariants as gpi
 use Rattle.gpt_descriptors.specs.declared.entry.L0Entry.{L0Entry}
 use Rattle.gpt_descriptors.specs.declared.entry.L0Entry.TheVariants as l0
-use Rattle.gpt_descriptors.specs.Sizes.{SetupData, granule_bytes, table_bytes, region_bytes}
+use Rattle.gpt_descriptors.specs.Sizes.{SetupData, granule_bytes, table_bytes, region_bytes, space_granules}
 use Rattle.gpt_descriptors.specs.Entries.{l0_word}
 use Rattle.region_plan.specs.declared.region.Kind.{Kind}
 use Rattle.region_plan.specs.declared.region.Kind.TheVariants as kind
@@ -29,6 +29,10 @@ gpi_or_any None = gpi.Any
 -- The region map: the GPI of a granule is that of the region that holds it, and any access where none does.
 unfoldable pub region_map : SetupData → List Region → ℕ → Gpi
 region_map s regions g = gpi_or_any (find (is_in s g) regions)
+
+-- the region map as a list, over the granules of the protected space
+abbrev pub region_gpis : SetupData → List Region → List Gpi
+region_gpis s regions = map (region_map s regions) (range_with_len 0 (space_granules s))
 
 -- the region has bytes of gigabyte q
 abbrev pub touches : ℕ → Region → Bool

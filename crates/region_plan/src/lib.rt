@@ -2,6 +2,7 @@
 //! can change.
 #![tactic(auto)]
 
+mod laying;
 mod planning;
 mod refusing;
 mod region;
@@ -11,4 +12,4 @@ pub use gpt_descriptors::{Gpi, MaxBlock, Setup};
 pub use planning::Plan;
 pub use refusing::PlanError;
 pub use region::{Kind, Region};
-pub use run_map::RunMap;
+pub use run_map::{Run, RunMap};

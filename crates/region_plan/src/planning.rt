@@ -1,23 +1,27 @@
-ghost use Rattle.std.specs.Prelude.{◌≡◌, ℕ, ◌+◌, ◌*◌, ◌/◌, ◌<◌, ◌≤◌, IsTrue, IfSome, IfNone, IfOk, IfErr, OnOk, None, Some, ◌⊎◌, is_some, ◌-◌, ◌^◌};
+ghost use Rattle.std.specs.Prelude.{◌≡◌, ◌/◌, ◌<◌, ◌≤◌, IfOk, IfErr, OnOk, None, Some, ◌⊎◌};
 ghost use Rattle.std.specs.List.{find};
-ghost use Rattle.gpt_descriptors.specs.Sizes.{SetupData, granule_bytes, space_bytes, space_granules};
-ghost use Rattle.gpt_descriptors.specs.Canonical.{one_gpi};
-ghost use Rattle.region_plan.specs.Regions.{is_in, gpi_or_any, region_map, needs_table, tables_needed, touches};
+ghost use Rattle.gpt_descriptors.specs.Sizes.{granule_bytes, space_bytes};
+ghost use Rattle.region_plan.specs.Regions.{gpi_or_any, region_gpis, region_map, needs_table, tables_needed, touches};
 ghost use Rattle.region_plan.specs.Refusals.{refusal};
 ghost use Rattle.region_plan.specs.Outcome.{IsRefusal};
 
-use crate::refusing::{PlanError, count_tables, first_refusal, is_table_needed, is_touched};
+use crate::laying::laid_map;
+use crate::refusing::{PlanError, count_tables, first_misplaced, is_touched, tabled_gigabytes};
 use crate::region::Region;
-use gpi_values::nibble;
+use crate::run_map::RunMap;
 use gpt_descriptors::{Gpi, Setup};
 use std::alloc::Global;
 use std::marker::Model;
 
-/// A list of regions that no rule refuses, with the setup that it was held against.
+/// A list of regions that no rule refuses, with the setup that it was held against. It keeps the
+/// region map and which gigabytes need an L1 table.
 #[derive(Debug, Drop)]
 pub struct Plan {
     setup: Setup,
     regions: Vec<Region>,
+    map: RunMap,
+    tabled: [bool; 64],
+    need: u64,
 }
 
 impl Model for Plan {
@@ -27,27 +31,9 @@ impl Model for Plan {
 
     ghost view = { λ a. record { setup = a.setup; regions = a.regions.items } };
 
-    ghost use Rattle.std.specs.Prelude.{◌≡◌, None};
-    ghost use Rattle.region_plan.specs.Refusals.{refusal};
+    ghost use Rattle.region_plan.specs.PlanData.{PlanKeeps};
 
-    ghost invariant = { λ a. refusal a.setup a.regions.items ≡ None };
-}
-
-fn holds(setup: &Setup, granule: u64, region: &Region) -> bool
-    ensures { result ≡ is_in setup.now granule region.now }
-{
-    let bytes = setup.granule_bytes();
-    let first = region.base / bytes;
-    first <= granule && granule < first + region.size / bytes
-}
-
-fn region_of(setup: &Setup, regions: &[Region], granule: u64) -> Option<Region>
-    ensures { result ≡ find (is_in setup.now granule) regions.now }
-{
-    regions
-        .iter()
-        .copied()
-        .find(|region| holds(setup, granule, region))
+    ghost invariant = { λ a. PlanKeeps a.setup a.regions.items a.map a.tabled a.need };
 }
 
 fn region_in(regions: &[Region], q: u64) -> Option<Region>
@@ -66,65 +52,6 @@ fn gpi_of_region(region: Option<Region>) -> Gpi
     }
 }
 
-/// The GPI of this granule in the region map.
-#[tactic(auto, unfolding(crate::specs::Regions::region_map))]
-fn granule_gpi(setup: &Setup, regions: &[Region], granule: u64) -> Gpi
-    ensures { result ≡ region_map setup.now regions.now granule }
-{
-    gpi_of_region(region_of(setup, regions, granule))
-}
-
-/// The first granule behind this one at which the region begins or ends, at most `next`.
-fn next_edge(setup: &Setup, region: &Region, granule: u64, next: u64) -> u64
-    requires { granule < next }
-    ensures ahead { granule < result }
-    ensures bound { result ≤ next }
-    ensures same { (k : ℕ) → granule ≤ k → k < result → is_in setup.now k region.now ≡ is_in setup.now granule region.now }
-{
-    let bytes = setup.granule_bytes();
-    let first = region.base / bytes;
-    let after = first + region.size / bytes;
-    if granule < first {
-        next.min(first)
-    } else if granule < after {
-        next.min(after)
-    } else {
-        next
-    }
-}
-
-/// Where the run of granules that starts with this one ends: at the next granule at which a region
-/// begins or ends, at most at `end`.
-fn run_end(setup: &Setup, regions: &[Region], granule: u64, end: u64) -> u64
-    requires { granule < end }
-    ensures ahead { granule < result }
-    ensures bound { result ≤ end }
-    ensures same { (k : ℕ) → granule ≤ k → k < result → region_map setup.now regions.now k ≡ region_map setup.now regions.now granule }
-{
-    let mut next = end;
-    for region in regions {
-        next = next_edge(setup, region, granule, next);
-    }
-    next
-}
-
-/// The one GPI of the granules from `first` up to `end`.
-fn common_gpi(setup: &Setup, regions: &[Region], first: u64, end: u64) -> Option<Gpi>
-    requires { first ≤ end }
-    ensures one { IfSome result (λ gpi. gpi ≡ region_map setup.now regions.now first) }
-    ensures exact { is_some result ≡ one_gpi (region_map setup.now regions.now) first (end - first) }
-{
-    let gpi = granule_gpi(setup, regions, first);
-    let mut at = first;
-    while at < end {
-        if nibble(granule_gpi(setup, regions, at)) != nibble(gpi) {
-            return None;
-        }
-        at = run_end(setup, regions, at, end);
-    }
-    Some(gpi)
-}
-
 impl Plan {
     /// Holds the regions against the setup: the plan, or the first rule that refuses them. Each
     /// region's base and size are bytes; indices count from 0. At most 256 regions are accepted. Want of
@@ -135,12 +62,28 @@ impl Plan {
         ensures refused { IfErr result (λ e. IsRefusal e (refusal setup.now regions.now)) }
         ensures told { IfErr result (λ e. (refusal setup.now regions.now ≡ None) ⊎ (refusal setup.now regions.now ≡ Some e)) }
     {
-        if let Some(error) = first_refusal(setup, regions) {
-            return Err(error);
+        match first_misplaced(setup, regions) {
+            Some(error) => return Err(error),
+            None => {}
         }
+        let map = match laid_map(alloc, setup, regions) {
+            Ok(map) => map,
+            Err(pair) => return Err(PlanError::Overlap(pair.0, pair.1)),
+        };
+        let tabled = tabled_gigabytes(regions);
+        let need = count_tables(setup, regions, &tabled);
+        if need > setup.tables() {
+            return Err(PlanError::NoTables(need));
+        }
+        let Some(map) = map else {
+            return Err(PlanError::Memory);
+        };
         Ok(Plan {
             setup: *setup,
             regions: Vec::from_slice(alloc, regions)?,
+            map,
+            tabled,
+            need,
         })
     }
 
@@ -159,7 +102,7 @@ impl Plan {
         ensures bound { result ≤ 64 }
         ensures few { result ≤ self.now.setup.tables }
     {
-        count_tables(&self.setup, &self.regions)
+        self.need
     }
 
     /// Whether gigabyte `q` needs an L1 table.
@@ -167,7 +110,7 @@ impl Plan {
         requires { q < 64 }
         ensures { result ≡ needs_table self.now.regions q }
     {
-        is_table_needed(&self.regions, q)
+        self.tabled[q as usize]
     }
 
     /// The GPI of the region that gigabyte `q` belongs to, any access where there is none.
@@ -184,23 +127,13 @@ impl Plan {
         requires { pa < space_bytes self.now.setup }
         ensures { result ≡ region_map self.now.setup self.now.regions (pa / granule_bytes self.now.setup) }
     {
-        let granule = pa / self.setup.granule_bytes();
-        granule_gpi(&self.setup, &self.regions, granule)
+        self.map.get(pa / self.setup.granule_bytes())
     }
 
-    /// The GPI of a granule, by its number.
-    pub fn gpi_of(&self, granule: u64) -> Gpi
-        ensures { result ≡ region_map self.now.setup self.now.regions granule }
+    /// The region map, over the granules of the protected space.
+    pub fn map(&self) -> &RunMap
+        ensures { result.now ≡ region_gpis self.now.setup self.now.regions }
     {
-        granule_gpi(&self.setup, &self.regions, granule)
-    }
-
-    /// The one GPI of `count` granules from `first` on, or `None` exactly where they differ.
-    pub fn one_gpi(&self, first: u64, count: u64) -> Option<Gpi>
-        requires { first + count < 2 ^ 64 }
-        ensures one { IfSome result (λ gpi. gpi ≡ region_map self.now.setup self.now.regions first) }
-        ensures exact { is_some result ≡ one_gpi (region_map self.now.setup self.now.regions) first count }
-    {
-        common_gpi(&self.setup, &self.regions, first, first + count)
+        &self.map
     }
 }

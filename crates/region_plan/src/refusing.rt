@@ -1,8 +1,8 @@
-ghost use Rattle.std.specs.Prelude.{◌≡◌, ◌+◌, ◌*◌, ◌/◌, ◌<◌, ◌≤◌, ◌^◌, IfSome, position, length, ◌&&◌};
+ghost use Rattle.std.specs.Prelude.{◌≡◌, ℕ, ◌+◌, ◌*◌, ◌/◌, ◌<◌, ◌≤◌, ◌^◌, IfSome, IfNone, Some, position, length, ◌&&◌, false, slice_index_or};
 ghost use Rattle.std.specs.List.{list_any};
 ghost use Rattle.gpt_descriptors.specs.Sizes.{granule_bytes};
 ghost use Rattle.region_plan.specs.Regions.{is_granule_kind, touches, needs_table, tables_needed, tables_below, first_granule, granule_count};
-ghost use Rattle.region_plan.specs.Refusals.{is_unaligned, is_outside, is_no_block, do_share, first_overlap, refusal};
+ghost use Rattle.region_plan.specs.Refusals.{is_unaligned, is_outside, is_no_block, do_share, first_overlap, ArePlaced, refusal};
 
 use crate::region::{Kind, Region};
 use gpt_descriptors::{REGION_BYTES, Setup};
@@ -109,7 +109,8 @@ fn first_sharing(setup: &Setup, region: &Region, others: &[Region]) -> Option<us
     others.iter().position(|other| share(setup, region, other))
 }
 
-fn overlap(setup: &Setup, regions: &[Region]) -> Option<(u32, u32)>
+/// The first two regions that share a granule: the least index, then the least index after it.
+pub fn overlap(setup: &Setup, regions: &[Region]) -> Option<(u32, u32)>
     requires { length regions.now ≤ REGION_LIMIT }
     ensures { result ≡ first_overlap setup.now 0 regions.now }
 {
@@ -146,25 +147,38 @@ pub fn is_table_needed(regions: &[Region], q: u64) -> bool
     regions.iter().any(|region| is_tabled(q, region))
 }
 
-/// How many gigabytes need an L1 table.
+/// Whether each gigabyte needs an L1 table.
+pub fn tabled_gigabytes(regions: &[Region]) -> [bool; 64]
+    ensures { (q : ℕ) → q < 64 → slice_index_or result q false ≡ needs_table regions.now q }
+{
+    let mut tabled = [false; 64];
+    for q in 0..64 {
+        tabled[q] = is_table_needed(regions, q as u64);
+    }
+    tabled
+}
+
+/// How many gigabytes of the protected space need an L1 table, of those that do.
 #[tactic(auto, using(crate::proofs::PlanLemmas::table_steps))]
-pub fn count_tables(setup: &Setup, regions: &[Region]) -> u64
+pub fn count_tables(setup: &Setup, regions: &[Region], tabled: &[bool; 64]) -> u64
+    requires { (q : ℕ) → q < 64 → slice_index_or tabled.now q false ≡ needs_table regions.now q }
     ensures count { result ≡ tables_needed setup.now regions.now }
     ensures bound { result ≤ 64 }
 {
     let mut need = 0;
     for q in 0..setup.gigabytes() {
-        if is_table_needed(regions, q) {
+        if tabled[q as usize] {
             need += 1;
         }
     }
     need
 }
 
-/// The first rule that refuses these regions, if one does.
+/// The first rule before that on overlaps that refuses these regions, if one does.
 #[tactic(auto, unfolding(crate::specs::Refusals::refusal))]
-pub fn first_refusal(setup: &Setup, regions: &[Region]) -> Option<PlanError>
-    ensures { result ≡ refusal setup.now regions.now }
+pub fn first_misplaced(setup: &Setup, regions: &[Region]) -> Option<PlanError>
+    ensures refused { IfSome result (λ e. refusal setup.now regions.now ≡ Some e) }
+    ensures placed { IfNone result (ArePlaced setup.now regions.now) }
 {
     if regions.is_empty() {
         return Some(PlanError::Empty);
@@ -180,13 +194,6 @@ pub fn first_refusal(setup: &Setup, regions: &[Region]) -> Option<PlanError>
     }
     if let Some(i) = first_no_block(regions) {
         return Some(PlanError::NotBlock(i as u32));
-    }
-    if let Some((i, j)) = overlap(setup, regions) {
-        return Some(PlanError::Overlap(i, j));
-    }
-    let need = count_tables(setup, regions);
-    if need > setup.tables() {
-        return Some(PlanError::NoTables(need));
     }
     None
 }

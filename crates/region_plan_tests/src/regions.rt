@@ -271,7 +271,6 @@ fn the_map_has_each_region_and_any_beside_it(rt: HostRuntime) -> Result<(), Fail
         assert!(rt; granule < 0x10_0000);
         assert_eq!(rt; plan.gpi(0x1000 * granule), want, "at {granule}");
         assert_eq!(rt; plan.gpi(0x1000 * granule + 0xfff), want, "at {granule}");
-        assert_eq!(rt; plan.gpi_of(granule), want, "at {granule}");
         assert_eq!(rt; map.get(granule), want, "at {granule}");
     }
     Ok(())
@@ -292,24 +291,121 @@ fn gigabytes_and_runs_of_one_gpi(rt: HostRuntime) -> Result<(), Fail> {
         assert_eq!(rt; plan.needs_table(q), tabled, "at {q}");
         assert_eq!(rt; plan.block_gpi(q), gpi, "at {q}");
     }
-    let runs = [
-        (0, 1, Some(Gpi::Any)),
-        (0, 2, None),
-        (1, 2, Some(Gpi::Realm)),
-        (1, 3, None),
-        (2, 1, Some(Gpi::Realm)),
-        (3, 0x3_fffd, Some(Gpi::Any)),
-        (3, 0x3_fffe, None),
-        (0x4_0000, 0x4_0000, Some(Gpi::Root)),
-        (0x3_ffff, 2, None),
-        (0x8_0000, 0x8_0000, Some(Gpi::Any)),
-        (1, 0, Some(Gpi::Realm)),
+    Ok(())
+}
+
+fn run(first: u64, gpi: Gpi) -> Run {
+    Run { first, gpi }
+}
+
+#[test]
+fn parts_are_the_longest_runs(rt: HostRuntime) -> Result<(), Fail> {
+    let plan = small_plan(&rt, rt.alloc())?;
+    let want = [
+        run(0, Gpi::Any),
+        run(1, Gpi::Realm),
+        run(3, Gpi::Any),
+        run(0x4_0000, Gpi::Root),
+        run(0x8_0000, Gpi::Any),
     ];
-    for (first, count, want) in runs {
-        assert!(rt; first < 0x10_0000);
-        assert!(rt; count < 0x10_0000);
-        assert_eq!(rt; plan.one_gpi(first, count), want, "from {first}");
+    assert_eq!(rt; plan.map().parts(), want.as_slice());
+    assert_eq!(rt; RunMap::of(rt.alloc(), &plan)?.parts(), want.as_slice());
+    // Neighbours of one GPI, listed from the last to the first, up to the end of the space.
+    let regions = [
+        granules(0xffff_f000, 0x1000),
+        granules(0x8000_0000, 0x7fff_f000),
+        granules(0x7fff_0000, 0x1_0000),
+    ];
+    let plan = Plan::plan(rt.alloc(), &regions, &setup_with(&rt, 3))?;
+    let want = [run(0, Gpi::Any), run(0x7_fff0, Gpi::Realm)];
+    assert_eq!(rt; plan.map().parts(), want.as_slice());
+    assert_eq!(rt; RunMap::new(rt.alloc(), 0)?.parts(), [].as_slice());
+    assert_eq!(rt;
+        RunMap::new(rt.alloc(), 3)?.parts(),
+        [run(0, Gpi::Any)].as_slice()
+    );
+    Ok(())
+}
+
+/// Any access on 0 to 3, Realm on 4 and 5, Root on 6, Realm on 7 to 9.
+fn four_runs(alloc: Global) -> Result<RunMap, AllocError>
+    ensures { IfOk result (λ map. length map ≡ 10) }
+{
+    let mut map = RunMap::new(alloc, 10)?;
+    for granule in [4, 5, 7, 8, 9] {
+        map.set(granule, Gpi::Realm)?;
     }
+    map.set(6, Gpi::Root)?;
+    Ok(map)
+}
+
+/// The runs that the four become where a granule is set.
+fn set_gives(
+    rt: &(impl Abort + Print),
+    alloc: Global,
+    granule: u64,
+    gpi: Gpi,
+    want: &[Run],
+) -> Result<(), AllocError> {
+    let mut map = four_runs(alloc)?;
+    assert!(rt; granule < map.size());
+    map.set(granule, gpi)?;
+    assert_eq!(rt; map.parts(), want, "at {granule}");
+    Ok(())
+}
+
+#[test]
+fn a_set_granule_parts_a_run_or_joins_its_neighbours(rt: HostRuntime) -> Result<(), Fail> {
+    let alloc = rt.alloc();
+    let (any, realm, root) = (run(0, Gpi::Any), run(4, Gpi::Realm), run(6, Gpi::Root));
+    let last = run(7, Gpi::Realm);
+    // As it is, and in the middle of a run.
+    set_gives(&rt, alloc, 0, Gpi::Any, &[any, realm, root, last])?;
+    let parted = [any, realm, root, last, run(8, Gpi::Any), run(9, Gpi::Realm)];
+    set_gives(&rt, alloc, 8, Gpi::Any, &parted)?;
+    // At the first granule of a run.
+    let parted = [run(0, Gpi::Root), run(1, Gpi::Any), realm, root, last];
+    set_gives(&rt, alloc, 0, Gpi::Root, &parted)?;
+    set_gives(
+        &rt,
+        alloc,
+        4,
+        Gpi::Any,
+        &[any, run(5, Gpi::Realm), root, last],
+    )?;
+    let parted = [any, run(4, Gpi::Root), run(5, Gpi::Realm), root, last];
+    set_gives(&rt, alloc, 4, Gpi::Root, &parted)?;
+    // At the last one.
+    set_gives(
+        &rt,
+        alloc,
+        3,
+        Gpi::Realm,
+        &[any, run(3, Gpi::Realm), root, last],
+    )?;
+    set_gives(
+        &rt,
+        alloc,
+        5,
+        Gpi::Root,
+        &[any, realm, run(5, Gpi::Root), last],
+    )?;
+    set_gives(
+        &rt,
+        alloc,
+        9,
+        Gpi::Root,
+        &[any, realm, root, last, run(9, Gpi::Root)],
+    )?;
+    // At the only one.
+    set_gives(&rt, alloc, 6, Gpi::Realm, &[any, realm])?;
+    set_gives(
+        &rt,
+        alloc,
+        6,
+        Gpi::Any,
+        &[any, realm, run(6, Gpi::Any), last],
+    )?;
     Ok(())
 }
 

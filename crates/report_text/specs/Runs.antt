@@ -8,7 +8,7 @@ pub record Run : Type 0 where
   pub count : ℕ
   pub word : ℕ
 
--- the runs of a list behind so many equal words: the run goes on with a word that is equal, and ends at any other
+-- the runs of a list after so many equal words: the run goes on with a word that is equal, and ends at any other
 abbrev pub runs_after : ℕ → ℕ → ℕ → List ℕ → List Run
 runs_after first count word [] = record { first = first; count = count; word = word } ∷ []
 runs_after first count word (next ∷ rest) =
@@ -16,10 +16,14 @@ runs_after first count word (next ∷ rest) =
     then runs_after first (count + 1) word rest
     else record { first = first; count = count; word = word } ∷ runs_after (first + count) 1 next rest
 
+-- the runs of a list whose first word has this index
+abbrev pub runs_from : ℕ → List ℕ → List Run
+runs_from first [] = []
+runs_from first (word ∷ rest) = runs_after first 1 word rest
+
 -- the runs of a list
 abbrev pub runs_of : List ℕ → List Run
-runs_of [] = []
-runs_of (word ∷ rest) = runs_after 0 1 word rest
+runs_of words = runs_from 0 words
 
 -- each run has at least one word, and stands where the one before it ended
 abbrev pub AreJoined : ℕ → List Run → Type 0

@@ -1,6 +1,5 @@
-ghost use Rattle.std.specs.Prelude.{◌≡◌, ◌+◌, ◌*◌, ◌<◌, ◌≤◌, ◌^◌, ◌++◌, IfOk, OnOk, string_bytes, length, codes};
-ghost use Rattle.std.specs.List.{flat_map};
-ghost use Rattle.report_text.specs.Runs.{runs_after, AreRunsMaximal};
+ghost use Rattle.std.specs.Prelude.{◌≡◌, ℕ, ◌+◌, ◌*◌, ◌≤◌, ◌++◌, ◌∷◌, IfOk, OnOk, string_bytes, length, drop, slice_index, codes};
+ghost use Rattle.report_text.specs.Runs.{runs_from, AreRunsMaximal};
 ghost use Rattle.report_text.specs.TablesText.{run_line, runs_text, tables_text, words_text, report_line, end_line, report_of_tables};
 
 use crate::level::Level;
@@ -25,40 +24,35 @@ fn push_run(
     Ok(())
 }
 
+/// How many words from the first one on are equal to it.
+fn equal_words(words: &[u64]) -> usize
+    requires { 1 ≤ length words.now }
+    ensures low { 1 ≤ result }
+    ensures high { result ≤ length words.now }
+    ensures run { (first : ℕ) → runs_from first words.now ≡ record { first = first; count = result; word = slice_index words.now 0 } ∷ runs_from (first + result) (drop result words.now) }
+{
+    let word = words[0];
+    let mut count = 1;
+    while count < words.len() {
+        if words[count] != word {
+            return count;
+        }
+        count += 1;
+    }
+    count
+}
+
 /// Appends the lines of the maximal runs of these words.
 pub fn push_runs(out: &mut String, level: Level, words: &[u64]) -> Result<(), AllocError>
     ensures { OnOk result (string_bytes out.new ≡ string_bytes out.old ++ runs_text level words.now) }
 {
-    match words {
-        [] => Ok(()),
-        [word, rest @ ..] => push_runs_after(out, level, *word, rest),
+    let mut at = 0;
+    while at < words.len() {
+        let count = equal_words(&words[at..]);
+        push_run(out, level, at as u64, count as u64, words[at])?;
+        at += count;
     }
-}
-
-/// Appends the lines of the maximal runs of a word and those behind it.
-fn push_runs_after(
-    out: &mut String,
-    level: Level,
-    start: u64,
-    rest: &[u64],
-) -> Result<(), AllocError>
-    requires { length rest.now + 1 < 2 ^ 64 }
-    ensures { OnOk result (string_bytes out.new ≡ string_bytes out.old ++ flat_map (run_line level) (runs_after 0 1 start rest.now)) }
-{
-    let mut first = 0;
-    let mut count = 1;
-    let mut word = start;
-    for &next in rest {
-        if next == word {
-            count += 1;
-        } else {
-            push_run(out, level, first, count, word)?;
-            first += count;
-            count = 1;
-            word = next;
-        }
-    }
-    push_run(out, level, first, count, word)
+    Ok(())
 }
 
 /// Appends the lines of `tables` level 1 tables of so many words each.

@@ -1,3 +1,4 @@
 pub mod BlockLemmas
 pub mod BuiltLemmas
 pub mod MeaningLemmas
+pub mod ReadingLemmas

@@ -1,11 +1,13 @@
 ghost use Rattle.std.specs.Prelude.{◌≡◌, ◌+◌, ◌*◌, ◌<◌, ◌≤◌, ◌^◌, ◌++◌, [], IfOk, IfErr, OnOk, false, if◌then◌else◌};
-ghost use Rattle.gpt_descriptors.specs.Sizes.{table_bytes};
+ghost use Rattle.gpt_descriptors.specs.Sizes.{table_words, table_bytes};
 ghost use Rattle.gpt_descriptors.specs.Entries.{l0_word};
 ghost use Rattle.region_plan.specs.Regions.{region_l0, region_entry, needs_table, tables_below};
 ghost use Rattle.table_build.specs.Built.{table_of, region_l1, tables_of, is_bad_base};
+ghost use Rattle.table_build.specs.Reading.{IsAt};
 ghost use Rattle.table_build.specs.Outcome.{IsBadBase};
 
 use crate::blocks::push_table;
+use crate::cursor::Cursor;
 use crate::tables::Tables;
 use gpt_descriptors::{L0Entry, encode_l0};
 use region_plan::{Plan, Setup};
@@ -79,7 +81,7 @@ fn level0(alloc: Global, plan: &Plan) -> Result<Vec<u64>, AllocError>
     requires { is_bad_base plan.now.setup plan.now.regions ≡ false }
     ensures { IfOk result (λ v. v.items ≡ region_l0 plan.now.setup plan.now.regions) }
 {
-    let mut words = Vec::new(alloc);
+    let mut words = Vec::with_capacity(alloc, plan.setup().gigabytes() as usize)?;
     let mut before = 0;
     for q in 0..plan.setup().gigabytes() {
         words.push(entry_word(plan, q, before))?;
@@ -89,12 +91,20 @@ fn level0(alloc: Global, plan: &Plan) -> Result<Vec<u64>, AllocError>
 }
 
 /// Appends the table of gigabyte `q` where it needs one.
-fn push_needed(words: &mut Vec<u64>, plan: &Plan, q: u64) -> Result<(), AllocError>
-    requires { q < 64 }
-    ensures { OnOk result (words.new.items ≡ words.old.items ++ (if needs_table plan.now.regions q then table_of plan.now.setup plan.now.regions q else [])) }
+fn push_needed(
+    words: &mut Vec<u64>,
+    cursor: &mut Cursor<'_>,
+    plan: &Plan,
+    q: u64,
+) -> Result<(), AllocError>
+    requires range { q < 64 }
+    requires inside { q < plan.now.setup.gigabytes }
+    requires at { IsAt plan.now.setup plan.now.regions (q * table_words plan.now.setup) cursor.old }
+    ensures words { OnOk result (words.new.items ≡ words.old.items ++ (if needs_table plan.now.regions q then table_of plan.now.setup plan.now.regions q else [])) }
+    ensures at { OnOk result (IsAt plan.now.setup plan.now.regions ((q + 1) * table_words plan.now.setup) cursor.new) }
 {
     if plan.needs_table(q) {
-        push_table(words, plan, q)
+        push_table(words, cursor, plan, q)
     } else {
         Ok(())
     }
@@ -104,9 +114,11 @@ fn push_needed(words: &mut Vec<u64>, plan: &Plan, q: u64) -> Result<(), AllocErr
 fn level1(alloc: Global, plan: &Plan) -> Result<Vec<u64>, AllocError>
     ensures { IfOk result (λ v. v.items ≡ region_l1 plan.now.setup plan.now.regions) }
 {
-    let mut words = Vec::new(alloc);
+    let room = plan.need() * plan.setup().table_words();
+    let mut words = Vec::with_capacity(alloc, room as usize)?;
+    let mut cursor = Cursor::new(plan.map());
     for q in 0..plan.setup().gigabytes() {
-        push_needed(&mut words, plan, q)?;
+        push_needed(&mut words, &mut cursor, plan, q)?;
     }
     Ok(words)
 }

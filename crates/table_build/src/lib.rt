@@ -3,6 +3,7 @@
 
 mod blocks;
 mod building;
+mod cursor;
 mod law;
 mod tables;
 

@@ -161,6 +161,50 @@ fn blocks_and_tables_of_level_0(rt: HostRuntime) -> Result<(), Fail> {
 }
 
 #[test]
+fn a_run_of_sixteen_gigabytes_fills_sixteen_tables(rt: HostRuntime) -> Result<(), Fail> {
+    let setup = Setup::new(64, MaxBlock::FiveTwelve, 1, 0, 8, 16, 0x8000_0000);
+    let tables = tables_of(
+        &rt,
+        rt.alloc(),
+        &[granules(0, 0x4_0000_0000, Gpi::NonSecure)],
+        &setup.expect(&rt, "sixteen tables"),
+    )?;
+    assert_eq!(rt; tables.l0().len(), 64);
+    let mut address = 0x8000_0003u64;
+    for word in tables.l0().iter().take(16) {
+        assert_eq!(rt; *word, address);
+        address = address.wrapping_add(0x2_0000);
+    }
+    assert!(rt; is_run(tables.l0(), 16, 48, 0xf1));
+    assert_eq!(rt; tables.l1().len(), 262144);
+    assert!(rt; is_run(tables.l1(), 0, 262144, 0x391));
+    Ok(())
+}
+
+#[test]
+fn a_run_may_go_on_in_a_gigabyte_without_a_table(rt: HostRuntime) -> Result<(), Fail> {
+    let setup = setup_with(&rt, MaxBlock::FiveTwelve, 2, 0x8000_0000);
+    let regions = [
+        granules(0x2000_0000, 0x2000_0000, Gpi::Secure),
+        block(0x4000_0000, 0x4000_0000, Gpi::Secure),
+        granules(0x8000_0000, 0x200_0000, Gpi::Secure),
+    ];
+    let tables = tables_of(&rt, rt.alloc(), &regions, &setup)?;
+    assert_eq!(rt;
+        tables.l0(),
+        [0x8000_0003, 0x81, 0x8002_0003, 0xf1].as_slice()
+    );
+    let words = tables.l1();
+    assert_eq!(rt; words.len(), 32768);
+    assert!(rt; is_run(words, 0, 8192, 0x3f1));
+    assert!(rt; is_run(words, 8192, 8192, 0x381));
+    assert!(rt; is_run(words, 16384, 512, 0x281));
+    assert!(rt; is_run(words, 16896, 7680, 0x2f1));
+    assert!(rt; is_run(words, 24576, 8192, 0x3f1));
+    Ok(())
+}
+
+#[test]
 fn a_base_is_aligned_and_the_last_table_ends_at_most_at_2_to_the_52(rt: HostRuntime) {
     let none = block(0, 0x4000_0000, Gpi::Root);
     let one = granules(0, 0x4000_0000, Gpi::NonSecure);

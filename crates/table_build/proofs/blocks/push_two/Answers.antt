@@ -1,11 +1,20 @@
-use Rattle.std.proofs.Common.{sym}
-use Rattle.table_build.proofs.BlockLemmas.{two_block, granules_block}
+use Rattle.std.proofs.Common.{◌+◌, ◌*◌, sym, arith}
+use Rattle.gpt_descriptors.specs.declared.size.Size.TheVariants as size
+use Rattle.gpt_descriptors.specs.Sizes.{words_of}
+use Rattle.table_build.specs.Reading.{IsAt}
+use Rattle.table_build.proofs.BlockLemmas.{two_block, granules_block, at_later, ok_known}
 use Rattle.table_build.proofs.blocks.push_two.Goals as goal
 
-pub returns-in-Some : goal.returns-in-Some
-returns-in-Some c =
+pub returns-in-Some-clause-words : goal.returns-in-Some-clause-words
+returns-in-Some-clause-words c =
     rw (two_block c.args.plan.now.setup c.args.plan.now.regions c.args.b c.requires.largest c.requires.larger (sym c.in-Some.ensures.exact)) c.push_entry.ensures
 
-pub returns-in-None : goal.returns-in-None
-returns-in-None c =
-    rw (granules_block c.args.plan.now.setup c.args.plan.now.regions c.args.b c.requires.largest c.requires.larger (sym c.in-None.ensures.exact)) c.push_granules.ensures
+pub returns-in-None-clause-words : goal.returns-in-None-clause-words
+returns-in-None-clause-words c =
+    rw (granules_block c.args.plan.now.setup c.args.plan.now.regions c.args.b c.requires.largest c.requires.larger (sym c.in-None.ensures.exact)) c.push_granules.ensures.words
+
+pub returns-in-Some-clause-at : goal.returns-in-Some-clause-at
+returns-in-Some-clause-at c =
+    let s = c.args.plan.now.setup in
+    ok_known c.push_entry.result (IsAt s c.args.plan.now.regions ((c.args.b + 1) * words_of s size.Two) c.block_gpi.new.cursor)
+    (at_later s c.args.plan.now.regions (c.args.b * words_of s size.Two) ((c.args.b + 1) * words_of s size.Two) c.block_gpi.new.cursor (omega arith) c.block_gpi.ensures.at)

@@ -7,7 +7,7 @@ use Rattle.table_build.proofs.building.level0.Goals as goal
 
 pub loop-q-init : goal.loop-q-init
 loop-q-init c = record {
-  words = c.new-words.ensures.items;
+  words = c.in_ok-words.ensures.items;
   before = sym (ap length (tabled_none c.args.plan.now.regions));
   few = omega arith;
 }
