@@ -1,5 +1,4 @@
 pub mod Spelling
-pub mod Numerals
 pub mod Faults
-pub mod Reading
-pub mod Drafts
+pub mod InnerReading
+pub mod InnerDrafts

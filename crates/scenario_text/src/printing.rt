@@ -1,7 +1,8 @@
 ghost use Rattle.std.specs.Prelude.{◌≡◌, ◌++◌, ◌∷◌, [], map, IfOk, string_bytes};
-ghost use Rattle.std.specs.List.{flat_map, join_with_byte};
+ghost use Rattle.std.specs.List.{flat_map};
+ghost use Rattle.line_text.specs.Lines.{line};
 ghost use Rattle.gpi_values.specs.Names.{source_name_of, world_name_of};
-ghost use Rattle.scenario_text.specs.Spelling.{WellFormed, text_of, line_text, head_lines, script_lines, address, max_count, kind_name, Version, Space, Max, Locks, First, Ring, Tables, Base, OneRegion, OneAsk, OneLook, OneSlot};
+ghost use Rattle.scenario_text.specs.Spelling.{WellFormed, text_of, line_text, space_lines, table_lines, head_lines, script_lines, address, max_count, kind_name, OneRegion, OneAsk, OneLook, OneSlot};
 
 use crate::scenario::{Ask, Look, Scenario, Script, Slot};
 use gpi_values::{Source, World, gpi_name, space_name};
@@ -53,7 +54,7 @@ fn count_of_max(max: MaxBlock) -> u64
 
 /// Appends the lines on the format and the sizes of the space.
 fn space_lines(out: &mut String, setup: &Setup) -> Result<(), AllocError>
-    ensures { IfOk result (λ u. string_bytes out.new ≡ string_bytes out.old ++ flat_map line_text (Version 1 ∷ Space setup.now.gigabytes ∷ Max setup.now.max ∷ Locks setup.now.lock_blocks ∷ [])) }
+    ensures { IfOk result (λ u. string_bytes out.new ≡ string_bytes out.old ++ flat_map line_text (space_lines setup.now)) }
 {
     let gigabytes = setup.gigabytes();
     let max = count_of_max(setup.max());
@@ -66,7 +67,7 @@ fn space_lines(out: &mut String, setup: &Setup) -> Result<(), AllocError>
 
 /// Appends the lines on the generations, the walks that are kept and the tables.
 fn table_lines(out: &mut String, setup: &Setup) -> Result<(), AllocError>
-    ensures { IfOk result (λ u. string_bytes out.new ≡ string_bytes out.old ++ flat_map line_text (First setup.now.first ∷ Ring setup.now.ring ∷ Tables setup.now.tables ∷ Base setup.now.base ∷ [])) }
+    ensures { IfOk result (λ u. string_bytes out.new ≡ string_bytes out.old ++ flat_map line_text (table_lines setup.now)) }
 {
     let first = setup.first();
     let ring = setup.ring();
@@ -117,7 +118,7 @@ fn ask_line(out: &mut String, ask: &Ask) -> Result<(), AllocError>
 
 /// Appends a line of a word, an address and a name.
 fn call_line(out: &mut String, word: &str, pa: u64, name: &str) -> Result<(), AllocError>
-    ensures { IfOk result (λ u. string_bytes out.new ≡ string_bytes out.old ++ (join_with_byte 32 (word.now ∷ address pa ∷ name.now ∷ []) ++ 10 ∷ [])) }
+    ensures { IfOk result (λ u. string_bytes out.new ≡ string_bytes out.old ++ line (word.now ∷ address pa ∷ name.now ∷ [])) }
 {
     write!(out, "{word} 0x{pa:x} {name}\n")
 }

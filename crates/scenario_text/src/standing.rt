@@ -1,25 +1,25 @@
-ghost use Rattle.std.specs.Prelude.{◌≡◌};
-ghost use Rattle.scenario_text.specs.Faults.{may_follow, may_stand, head_index};
-ghost use Rattle.scenario_text.specs.Reading.{InLimits, Next, place_after, after};
+ghost use Rattle.std.specs.Prelude.{◌≡◌, ◌+◌};
+ghost use Rattle.scenario_text.specs.Faults.{may_follow, may_stand, head_index, head_place};
+ghost use Rattle.scenario_text.specs.InnerReading.{InLimits, Next, place_after, after};
 
 use crate::forming::turns_in;
 use crate::line::Line;
-use crate::word::Word;
+use crate::word::{Setting, Word};
 
 /// Where the next line stands.
 #[derive(Clone, Copy, Debug, PartialEq, Eq)]
 pub enum Place {
     /// Line k of the head, counted from 0.
     Head(u64),
-    /// Behind the head, before the first section.
+    /// After the head, before the first section.
     Regions,
     /// In an agent's section.
     InAgent,
     /// In a processor's section.
     InCpu,
-    /// Behind the first line of the schedule.
+    /// After the first line of the schedule.
     Schedule,
-    /// Behind the end line.
+    /// After the end line.
     Ended,
 }
 
@@ -42,20 +42,28 @@ fn follows(word: Word) -> bool
     }
 }
 
-/// The place of a word in the head.
-fn head_place(word: Word) -> Option<u64>
-    ensures { result ≡ head_index word }
+/// The place of a setting in the head, counted from 0.
+fn head_index(setting: Setting) -> u64
+    ensures { result ≡ head_index setting }
+{
+    match setting {
+        Setting::Gpt => 0,
+        Setting::Space => 1,
+        Setting::Max => 2,
+        Setting::Locks => 3,
+        Setting::First => 4,
+        Setting::Ring => 5,
+        Setting::Tables => 6,
+        Setting::Base => 7,
+    }
+}
+
+fn in_head(place: u64, word: Word) -> bool
+    ensures { result ≡ may_stand (Place.Head place) word }
 {
     match word {
-        Word::Gpt => Some(0),
-        Word::Space => Some(1),
-        Word::Max => Some(2),
-        Word::Locks => Some(3),
-        Word::First => Some(4),
-        Word::Ring => Some(5),
-        Word::Tables => Some(6),
-        Word::Base => Some(7),
-        _ => None,
+        Word::Setting(setting) => head_index(setting) == place,
+        _ => false,
     }
 }
 
@@ -64,7 +72,7 @@ pub fn stands(place: Place, word: Word) -> bool
     ensures { result ≡ may_stand place word }
 {
     match place {
-        Place::Head(k) => head_place(word) == Some(k),
+        Place::Head(k) => in_head(k, word),
         Place::Regions => matches!(word, Word::Region) || follows(word),
         Place::InAgent => {
             matches!(word, Word::Delegate | Word::Undelegate | Word::Smc) || follows(word)
@@ -72,6 +80,30 @@ pub fn stands(place: Place, word: Word) -> bool
         Place::InCpu => matches!(word, Word::Look) || follows(word),
         Place::Schedule => matches!(word, Word::Turn | Word::Round | Word::End),
         Place::Ended => false,
+    }
+}
+
+/// The place after this setting.
+fn place_in_head(setting: Setting) -> Place
+    ensures { result ≡ head_place (head_index setting + 1) }
+{
+    match setting {
+        Setting::Base => Place::Regions,
+        _ => Place::Head(head_index(setting) + 1),
+    }
+}
+
+/// The place after a line.
+fn place_after(line: Line) -> Place
+    ensures { result ≡ place_after line }
+{
+    match line {
+        Line::OneSetting(setting, _) => place_in_head(setting),
+        Line::OneRegion(_) => Place::Regions,
+        Line::NewAgent | Line::OneAsk(_) => Place::InAgent,
+        Line::NewCpu | Line::OneLook(_) => Place::InCpu,
+        Line::OneSlot(_) => Place::Schedule,
+        Line::End => Place::Ended,
     }
 }
 
@@ -84,7 +116,7 @@ impl Standing {
         turns: 0,
     };
 
-    /// Where the line behind this one stands.
+    /// Where the line after this one stands.
     pub fn after(self, line: Line) -> Standing
         requires limits { InLimits self }
         requires next { Next self line }
@@ -93,31 +125,11 @@ impl Standing {
         let mut next = self;
         next.place = place_after(line);
         match line {
-            Line::Space(gigabytes) => next.gigabytes = gigabytes,
+            Line::OneSetting(Setting::Space, gigabytes) => next.gigabytes = gigabytes,
             Line::NewAgent | Line::NewCpu => next.callers += 1,
             Line::OneSlot(slot) => next.turns += turns_in(self.callers, slot),
             _ => {}
         }
         next
-    }
-}
-
-/// The place behind a line.
-fn place_after(line: Line) -> Place
-    ensures { result ≡ place_after line }
-{
-    match line {
-        Line::Version(_) => Place::Head(1),
-        Line::Space(_) => Place::Head(2),
-        Line::Max(_) => Place::Head(3),
-        Line::Locks(_) => Place::Head(4),
-        Line::First(_) => Place::Head(5),
-        Line::Ring(_) => Place::Head(6),
-        Line::Tables(_) => Place::Head(7),
-        Line::Base(_) | Line::OneRegion(_) => Place::Regions,
-        Line::NewAgent | Line::OneAsk(_) => Place::InAgent,
-        Line::NewCpu | Line::OneLook(_) => Place::InCpu,
-        Line::OneSlot(_) => Place::Schedule,
-        Line::End => Place::Ended,
     }
 }

@@ -1,5 +1,5 @@
 use Rattle.std.proofs.Common.{length}
-use Rattle.scenario_text.specs.Drafts.{data_of}
+use Rattle.scenario_text.specs.InnerDrafts.{data_of}
 use Rattle.scenario_text.proofs.Loop.{Going}
 use Rattle.scenario_text.proofs.parsing.scenario.Given as goal
 

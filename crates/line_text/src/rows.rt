@@ -1,0 +1,63 @@
+ghost use Rattle.std.specs.Prelude.{◌≡◌, ◌≤◌, IfOk, MatchResult, length, map, take, None, Some};
+ghost use Rattle.line_text.specs.Rows.{row_fault};
+ghost use Rattle.line_text.specs.InnerRows.{kind_in, fields_left, has_shape, FitsPrefix, ok_padded, read_values, read_row, spell};
+
+use crate::cutting::{next_field, no_field};
+use crate::kind::{FieldKind, RowFault, value};
+
+/// Whether there are as many fields as kinds, none of them empty.
+#[tactic(auto, unfolding(crate::specs::InnerRows::has_shape, crate::specs::InnerRows::next_of))]
+fn fits(kinds: &[FieldKind], rest: Option<&[u8]>) -> bool
+    ensures { result ≡ has_shape (map kind_in kinds.now) (fields_left rest.entry) }
+{
+    match kinds {
+        [] => no_field(rest),
+        [_, kinds @ ..] => match next_field(rest) {
+            Ok((_, rest)) => fits(kinds, rest),
+            Err(_) => false,
+        },
+    }
+}
+
+/// The values of some fields, with zeros after them, or the fault of the first bad one.
+#[tactic(auto, unfolding(crate::specs::InnerRows::read_values, crate::specs::InnerRows::next_of))]
+fn values(kinds: &[FieldKind], rest: Option<&[u8]>) -> Result<[u64; 4], RowFault>
+    ensures { result ≡ ok_padded (read_values (map kind_in kinds.now) (fields_left rest.entry)) }
+{
+    match kinds {
+        [] if no_field(rest) => Ok([0; 4]),
+        [] => Err(RowFault::Fields),
+        [kind, kinds @ ..] => {
+            let (field, rest) = next_field(rest)?;
+            let first = value(*kind, field)?;
+            let [second, third, fourth, _] = values(kinds, rest)?;
+            Ok([first, second, third, fourth])
+        }
+    }
+}
+
+/// The values of a row, or its fault: the shape is looked at again only where a field is bad.
+#[tactic(auto, using(crate::proofs::RowLemmas::row_of_values, crate::proofs::RowLemmas::row_of_fault, crate::proofs::RowLemmas::row_of_bad))]
+fn read(kinds: &[FieldKind], rest: Option<&[u8]>) -> Result<[u64; 4], RowFault>
+    ensures { result ≡ ok_padded (read_row (map kind_in kinds.now) (fields_left rest.entry)) }
+{
+    match values(kinds, rest) {
+        Ok(values) => Ok(values),
+        Err(fault) if fits(kinds, rest) => Err(fault),
+        Err(_) => Err(RowFault::Fields),
+    }
+}
+
+/// The values of the fields that are left of a line, with zeros after them. Time is linear in them.
+#[tactic(auto, using(crate::proofs::RowLemmas::row_faulty))]
+pub fn row(kinds: &[FieldKind], rest: Option<&[u8]>) -> Result<[u64; 4], RowFault>
+    requires { length kinds.now ≤ 4 }
+    ensures read { result ≡ ok_padded (read_row (map kind_in kinds.now) (fields_left rest.entry)) }
+    ensures fits { IfOk result (λ values. FitsPrefix (map kind_in kinds.now) values) }
+    // What is read is spelled so.
+    ensures spelled { IfOk result (λ values. fields_left rest.entry ≡ spell (map kind_in kinds.now) values) }
+    // The first bad field, and its fault.
+    ensures fault { MatchResult result (λ _. row_fault (map kind_in kinds.now) (fields_left rest.entry) ≡ None) (λ f. row_fault (map kind_in kinds.now) (fields_left rest.entry) ≡ Some f) }
+{
+    read(kinds, rest)
+}

@@ -1,0 +1,62 @@
+ghost use Rattle.std.specs.Prelude.{◌≡◌, ◌≤◌, IfOk};
+ghost use Rattle.line_text.specs.InnerRows.{kind_in, fields_left, FitsPrefix, ok_padded, read_row};
+ghost use Rattle.scenario_text.specs.Faults.{setting_kind, kinds_of};
+
+use crate::forming::TURN_LIMIT;
+use crate::standing::Standing;
+use crate::word::{Setting, Word};
+use gpt_descriptors::{GEN_LAST, REGION_BYTES};
+use line_text::{FieldKind, Range, RowFault, row};
+
+const ADDRESS: FieldKind = FieldKind::Address(Range::Any);
+const TURNS: FieldKind = FieldKind::Count(Range::Between(1, TURN_LIMIT));
+const KIND: FieldKind = FieldKind::Name(&["block", "granule"]);
+const GPI: FieldKind = FieldKind::Name(&["none", "secure", "nonsecure", "root", "realm", "any"]);
+const SPACE: FieldKind = FieldKind::Name(&["secure", "nonsecure", "root", "realm"]);
+const SOURCE: FieldKind = FieldKind::Name(&["realm", "secure"]);
+const WORLD: FieldKind = FieldKind::Name(&["realm", "secure", "nonsecure"]);
+const VERB: FieldKind = FieldKind::Name(&["delegate", "undelegate"]);
+
+/// What the value of a setting has to be.
+fn setting_kind(setting: Setting) -> FieldKind
+    ensures { kind_in result ≡ setting_kind setting }
+{
+    match setting {
+        Setting::Gpt => FieldKind::Count(Range::Among(&[1])),
+        Setting::Space => FieldKind::Count(Range::Among(&[4, 64])),
+        Setting::Max => FieldKind::Count(Range::Among(&[0, 2, 32, 512])),
+        Setting::Locks => FieldKind::Count(Range::Among(&[0, 1, 2, 4, 8])),
+        Setting::First => FieldKind::Count(Range::Between(0, GEN_LAST)),
+        Setting::Ring => FieldKind::Count(Range::Between(1, 64)),
+        Setting::Tables => FieldKind::Count(Range::Between(0, 16)),
+        Setting::Base => ADDRESS,
+    }
+}
+
+/// The values of the fields after a word, which are of these kinds.
+pub fn values_of(
+    standing: Standing,
+    word: Word,
+    rest: Option<&[u8]>,
+) -> Result<[u64; 4], RowFault>
+    requires { standing.gigabytes ≤ 64 }
+    ensures read { result ≡ ok_padded (read_row (kinds_of standing word) (fields_left rest.entry)) }
+    ensures fits { IfOk result (λ values. FitsPrefix (kinds_of standing word) values) }
+{
+    match word {
+        Word::Setting(setting) => row(&[setting_kind(setting)], rest),
+        Word::Region => row(&[ADDRESS, ADDRESS, KIND, GPI], rest),
+        Word::Delegate | Word::Undelegate => row(&[ADDRESS, SOURCE], rest),
+        Word::Smc => row(&[VERB, ADDRESS, WORLD], rest),
+        Word::Look => {
+            let space = Range::Below(standing.gigabytes * REGION_BYTES);
+            row(&[FieldKind::Address(space), SPACE], rest)
+        }
+        Word::Turn => {
+            let callers = Range::Below(standing.callers);
+            row(&[FieldKind::Count(callers), TURNS], rest)
+        }
+        Word::Round => row(&[TURNS, TURNS], rest),
+        Word::Agent | Word::Cpu | Word::End => row(&[], rest),
+    }
+}
