@@ -7,13 +7,7 @@ use Rattle.std.proofs.lemmas.Bool.Decides.{nat_tests}
 use Rattle.std.proofs.lemmas.List.{at_drop_more, at_drop_all}
 use Rattle.std.proofs.Math.Nat.{pow-zero, pow-suc, pow-le-pow_right, mul-le-mul_right, div-lt_iff_lt-mul}
 use Rattle.line_text.specs.Numerals.{is_digit_of, digit_of, value_in, is_numeral, numeral_in}
-
-abbrev pub IsBase : ℕ → Type 0
-IsBase base = (base ≡ 10) ⊎ (base ≡ 16)
-
--- the number that digits spell behind the digits of n
-abbrev pub value_on : ℕ → ℕ → List ℕ → ℕ
-value_on base n cs = fold (λ m c. m * base + digit_of c) n cs
+use Rattle.line_text.specs.InnerNumerals.{IsBase, pushed_in, value_on, rest_in}
 
 one_times : (base : ℕ) → 1 * base ≡ base
 one_times base = omega arith
@@ -216,13 +210,6 @@ numeral_again base b n lt =
     cond-true _ _ _ (and_from _ _ (spells_numeral base n _ s) small) ∙ ap (λ (m : ℕ). Some m) s.value
 
 -- ---- a loop over digits
-
--- the number of n and the digits behind it, if it is below 2 ^ 64 and each of them is a digit
-abbrev pub rest_in : ℕ → ℕ → List ℕ → Option ℕ
-rest_in base n cs = if list_all (is_digit_of base) cs && nat_lt (value_on base n cs) (2 ^ 64) then Some (value_on base n cs) else None
-
-abbrev pub pushed_in : ℕ → ℕ → ℕ → Option ℕ
-pushed_in base n c = if is_digit_of base c && nat_lt (n * base + digit_of c) (2 ^ 64) then Some (n * base + digit_of c) else None
 
 none_pushed : (t : Bool) (v : ℕ) → (if t then Some v else None) ≡ None → t ≡ false
 none_pushed true v e = cc

@@ -1,11 +1,11 @@
-ghost use Rattle.std.specs.Prelude.{◌≡◌, ℕ, ◌+◌, ◌*◌, ◌^◌, ◌<◌, ◌⊎◌, ◌&&◌, nat_lt, IfSome, IfNone, Some, None, if◌then◌else◌};
-ghost use Rattle.std.specs.List.{list_all};
+ghost use Rattle.std.specs.Prelude.{◌≡◌, ℕ, ◌^◌, ◌<◌, IfSome, IfNone, Some, None, if◌then◌else◌};
 ghost use Rattle.line_text.specs.Lines.{count, address};
-ghost use Rattle.line_text.specs.Numerals.{is_digit_of, digit_of, value_in, numeral_in, count_in, address_in};
+ghost use Rattle.line_text.specs.Numerals.{is_digit_of, digit_of, numeral_in, count_in, address_in};
+ghost use Rattle.line_text.specs.InnerNumerals.{IsBase, pushed_in, rest_in};
 
 /// What a byte counts as a digit of this base, if it is one.
 fn digit(base: u64, byte: u8) -> Option<u64>
-    requires { (base ≡ 10) ⊎ (base ≡ 16) }
+    requires { IsBase base }
     ensures { result ≡ (if is_digit_of base byte then Some (digit_of byte) else None) }
 {
     match byte {
@@ -15,10 +15,10 @@ fn digit(base: u64, byte: u8) -> Option<u64>
     }
 }
 
-/// The number of a digit behind these, if it is below 2^64.
+/// The number of a digit after these, if it is below 2^64.
 fn pushed(base: u64, value: u64, byte: u8) -> Option<u64>
-    requires { (base ≡ 10) ⊎ (base ≡ 16) }
-    ensures { result ≡ (if is_digit_of base byte && nat_lt (value * base + digit_of byte) (2 ^ 64) then Some (value * base + digit_of byte) else None) }
+    requires { IsBase base }
+    ensures { result ≡ pushed_in base value byte }
 {
     let last = digit(base, byte)?;
     value.checked_mul(base)?.checked_add(last)
@@ -27,8 +27,8 @@ fn pushed(base: u64, value: u64, byte: u8) -> Option<u64>
 /// The number that digits spell, if it is below 2^64. It stops at the first digit that passes that.
 #[tactic(auto, using(crate::proofs::DigitLemmas::rest_stops_at, crate::proofs::DigitLemmas::rest_ends_at))]
 fn value(base: u64, digits: &[u8]) -> Option<u64>
-    requires { (base ≡ 10) ⊎ (base ≡ 16) }
-    ensures { result ≡ (if list_all (is_digit_of base) digits.now && nat_lt (value_in base digits.now) (2 ^ 64) then Some (value_in base digits.now) else None) }
+    requires { IsBase base }
+    ensures { result ≡ rest_in base 0 digits.now }
 {
     let mut sum = 0;
     for &byte in digits {
@@ -39,7 +39,7 @@ fn value(base: u64, digits: &[u8]) -> Option<u64>
 
 /// The number that a numeral spells: some digits, without a leading zero but for 0 itself.
 fn numeral(base: u64, digits: &[u8]) -> Option<u64>
-    requires { (base ≡ 10) ⊎ (base ≡ 16) }
+    requires { IsBase base }
     ensures { result ≡ numeral_in base digits.now }
 {
     match digits {

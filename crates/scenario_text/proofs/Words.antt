@@ -43,8 +43,8 @@ use Rattle.scenario_text.specs.declared.word.Setting.TheVariants as setting
 use Rattle.scenario_text.specs.declared.word.Word.{Word}
 use Rattle.scenario_text.specs.declared.word.Word.TheVariants as word
 use Rattle.scenario_text.specs.Spelling.{count, address, setting_value, kind_name, fields_of, caller_limit, turn_limit, turns_of, IsRegion, IsAsk, IsSlot}
-use Rattle.scenario_text.specs.Faults.{word_text, all_words, word_of, may_stand, all_gpis, all_spaces, all_sources, all_worlds, all_kinds, setting_kind, kinds_of, number_of, line_turns, is_caller, fault_of, known_word_fault, line_fault, after_line, is_ended}
-use Rattle.scenario_text.specs.InnerReading.{monitor_call, line_with, in_turns, or_fault, read_values, read_word, read_known, read_fields, read_line, InLimits, word_for, InRange, Next, place_after, gigabytes_after, callers_after, after}
+use Rattle.scenario_text.specs.Faults.{word_text, all_words, word_of, may_stand, setting_kind, kinds_of, number_of, line_turns, is_caller, fault_of, known_word_fault, line_fault, after_line, is_ended}
+use Rattle.scenario_text.specs.InnerReading.{all_gpis, all_spaces, all_sources, all_worlds, all_kinds, monitor_call, line_with, in_turns, or_fault, read_values, read_word, read_known, read_fields, read_line, InLimits, word_for, InRange, Next, place_after, gigabytes_after, callers_after, after}
 
 -- ---- words
 

@@ -1,26 +1,15 @@
 -- The first bad line of a text and its fault, over the list of its lines: what may stand where, and
 -- what the fields of a line have to be.
-use Rattle.std.specs.Prelude.{◌≡◌, ℕ, ◌+◌, ◌*◌, Bool, true, false, ◌&&◌, not, List, [], ◌∷◌, map, Option, Some, None, unwrap_or, ◌==◌, nat_lt, nat_le, codes, if◌then◌else◌}
+use Rattle.std.specs.Prelude.{◌≡◌, ℕ, ◌+◌, ◌*◌, Bool, true, false, ◌&&◌, not, List, [], ◌∷◌, Option, Some, None, unwrap_or, ◌==◌, nat_lt, nat_le, codes, if◌then◌else◌}
 use Rattle.std.specs.List.{find}
 use Rattle.std.specs.Str.{bytes_eq}
 use Rattle.std.specs.Option.{option_or, option_map}
-use Rattle.gpi_values.specs.declared.gpi.Gpi.{Gpi}
-use Rattle.gpi_values.specs.declared.gpi.Gpi.TheVariants as gpi
-use Rattle.gpi_values.specs.declared.gpi.Space.{Space}
-use Rattle.gpi_values.specs.declared.gpi.Space.TheVariants as space
-use Rattle.gpi_values.specs.declared.security.Source.{Source}
-use Rattle.gpi_values.specs.declared.security.Source.TheVariants as source
-use Rattle.gpi_values.specs.declared.security.World.{World}
-use Rattle.gpi_values.specs.declared.security.World.TheVariants as world
-use Rattle.gpi_values.specs.Names.{name_of, space_name_of, source_name_of, world_name_of}
 use Rattle.gpt_descriptors.specs.Sizes.{generation_last, region_bytes}
 use Rattle.line_text.specs.declared.kind.RowFault.{RowFault}
 use Rattle.line_text.specs.declared.kind.RowFault.TheVariants as row_fails
 use Rattle.line_text.specs.Lines.{fields_in, lines_in}
 use Rattle.line_text.specs.Numerals.{count_in}
 use Rattle.line_text.specs.Rows.{Any, Between, Below, Among, FieldKind, Count, Address, Name, row_fault}
-use Rattle.region_plan.specs.declared.region.Kind.{Kind}
-use Rattle.region_plan.specs.declared.region.Kind.TheVariants as kind
 use Rattle.scenario_text.specs.declared.scenario.Fault.{Fault}
 use Rattle.scenario_text.specs.declared.scenario.Fault.TheVariants as fault
 use Rattle.scenario_text.specs.declared.scenario.TextError.{TextError}
@@ -32,7 +21,7 @@ use Rattle.scenario_text.specs.declared.word.Setting.{Setting}
 use Rattle.scenario_text.specs.declared.word.Setting.TheVariants as setting
 use Rattle.scenario_text.specs.declared.word.Word.{Word}
 use Rattle.scenario_text.specs.declared.word.Word.TheVariants as word
-use Rattle.scenario_text.specs.Spelling.{setting_name, kind_name, caller_limit, turn_limit}
+use Rattle.scenario_text.specs.Spelling.{setting_name, caller_limit, turn_limit}
 
 -- ---- words
 
@@ -105,25 +94,6 @@ may_stand Ended w = false
 
 -- ---- what the fields after the first one have to be
 
-abbrev pub all_gpis : List Gpi
-all_gpis = gpi.NoAccess ∷ gpi.Secure ∷ gpi.NonSecure ∷ gpi.Root ∷ gpi.Realm ∷ gpi.Any ∷ []
-
-abbrev pub all_spaces : List Space
-all_spaces = space.Secure ∷ space.NonSecure ∷ space.Root ∷ space.Realm ∷ []
-
-abbrev pub all_sources : List Source
-all_sources = source.Realm ∷ source.Secure ∷ []
-
-abbrev pub all_worlds : List World
-all_worlds = world.Realm ∷ world.Secure ∷ world.NonSecure ∷ []
-
-abbrev pub all_kinds : List Kind
-all_kinds = kind.Block ∷ kind.Granule ∷ []
-
--- the monitor calls
-abbrev pub verbs : List (List ℕ)
-verbs = codes "delegate" ∷ codes "undelegate" ∷ []
-
 abbrev pub turn_count : FieldKind
 turn_count = Count (Between 1 turn_limit)
 
@@ -139,16 +109,20 @@ setting_kind setting.Base = Address Any
 
 abbrev pub kinds_of : Standing → Word → List FieldKind
 kinds_of st (word.Setting s) = setting_kind s ∷ []
-kinds_of st word.Region = Address Any ∷ Address Any ∷ Name (map kind_name all_kinds) ∷ Name (map name_of all_gpis) ∷ []
-kinds_of st word.Agent = []
-kinds_of st word.Delegate = Address Any ∷ Name (map source_name_of all_sources) ∷ []
-kinds_of st word.Undelegate = Address Any ∷ Name (map source_name_of all_sources) ∷ []
-kinds_of st word.Smc = Name verbs ∷ Address Any ∷ Name (map world_name_of all_worlds) ∷ []
-kinds_of st word.Cpu = []
-kinds_of st word.Look = Address (Below (st.gigabytes * region_bytes)) ∷ Name (map space_name_of all_spaces) ∷ []
+kinds_of st word.Region =
+    Address Any ∷ Address Any ∷ Name (codes "block" ∷ codes "granule" ∷ [])
+    ∷ Name (codes "none" ∷ codes "secure" ∷ codes "nonsecure" ∷ codes "root" ∷ codes "realm" ∷ codes "any" ∷ []) ∷ []
+kinds_of st word.Delegate = Address Any ∷ Name (codes "realm" ∷ codes "secure" ∷ []) ∷ []
+kinds_of st word.Undelegate = Address Any ∷ Name (codes "realm" ∷ codes "secure" ∷ []) ∷ []
+kinds_of st word.Smc =
+    Name (codes "delegate" ∷ codes "undelegate" ∷ []) ∷ Address Any
+    ∷ Name (codes "realm" ∷ codes "secure" ∷ codes "nonsecure" ∷ []) ∷ []
+kinds_of st word.Look =
+    Address (Below (st.gigabytes * region_bytes))
+    ∷ Name (codes "secure" ∷ codes "nonsecure" ∷ codes "root" ∷ codes "realm" ∷ []) ∷ []
 kinds_of st word.Turn = Count (Below st.callers) ∷ turn_count ∷ []
 kinds_of st word.Round = turn_count ∷ turn_count ∷ []
-kinds_of st word.End = []
+kinds_of st w = []
 
 abbrev pub number_of : List ℕ → ℕ
 number_of field = unwrap_or (count_in field) 0

@@ -1,8 +1,11 @@
 -- Reading the lines of a text from left to right, with the first fault that is met, over lists. It serves the
 -- reader's inner contracts: no public contract names it, and nobody has to believe it.
 use Rattle.std.specs.Prelude.{◌≡◌, ℕ, ◌+◌, ◌*◌, ◌<◌, ◌≤◌, ◌^◌, Bool, true, List, [], ◌∷◌, get_or, Option, Some, None, Result, Ok, Err, ◌==◌, ◌&&◌, nat_lt, nat_le, if◌then◌else◌}
+use Rattle.gpi_values.specs.declared.gpi.Gpi.{Gpi}
 use Rattle.gpi_values.specs.declared.gpi.Gpi.TheVariants as gpi
+use Rattle.gpi_values.specs.declared.gpi.Space.{Space}
 use Rattle.gpi_values.specs.declared.gpi.Space.TheVariants as space
+use Rattle.gpi_values.specs.declared.security.Source.{Source}
 use Rattle.gpi_values.specs.declared.security.Source.TheVariants as source
 use Rattle.gpi_values.specs.declared.security.World.{World}
 use Rattle.gpi_values.specs.declared.security.World.TheVariants as world
@@ -10,6 +13,7 @@ use Rattle.gpt_descriptors.specs.Sizes.{region_bytes}
 use Rattle.line_text.specs.declared.kind.RowFault.{RowFault}
 use Rattle.line_text.specs.Lines.{fields_in, lines_in}
 use Rattle.line_text.specs.InnerRows.{◌>>=◌, FieldFits, ok_padded, read_row}
+use Rattle.region_plan.specs.declared.region.Kind.{Kind}
 use Rattle.region_plan.specs.declared.region.Kind.TheVariants as kind
 use Rattle.scenario_text.specs.declared.line.Line.{Line}
 use Rattle.scenario_text.specs.declared.line.Line.TheVariants as says
@@ -27,7 +31,24 @@ use Rattle.scenario_text.specs.declared.word.Setting.TheVariants as setting
 use Rattle.scenario_text.specs.declared.word.Word.{Word}
 use Rattle.scenario_text.specs.declared.word.Word.TheVariants as word
 use Rattle.scenario_text.specs.Spelling.{caller_limit, turn_limit, turns_of, IsRegion, IsAsk, IsSlot}
-use Rattle.scenario_text.specs.Faults.{word_of, may_stand, is_caller, all_gpis, all_spaces, all_sources, all_worlds, all_kinds, setting_kind, kinds_of, fault_of, head_index, head_place, is_ended, rest_fault, start}
+use Rattle.scenario_text.specs.Faults.{word_of, may_stand, is_caller, setting_kind, kinds_of, fault_of, head_index, head_place, is_ended, rest_fault, start}
+
+-- ---- values of names, in the order of the names
+
+abbrev pub all_gpis : List Gpi
+all_gpis = gpi.NoAccess ∷ gpi.Secure ∷ gpi.NonSecure ∷ gpi.Root ∷ gpi.Realm ∷ gpi.Any ∷ []
+
+abbrev pub all_spaces : List Space
+all_spaces = space.Secure ∷ space.NonSecure ∷ space.Root ∷ space.Realm ∷ []
+
+abbrev pub all_sources : List Source
+all_sources = source.Realm ∷ source.Secure ∷ []
+
+abbrev pub all_worlds : List World
+all_worlds = world.Realm ∷ world.Secure ∷ world.NonSecure ∷ []
+
+abbrev pub all_kinds : List Kind
+all_kinds = kind.Block ∷ kind.Granule ∷ []
 
 -- ---- lines, by their word
 

@@ -2,3 +2,4 @@ pub mod Spelling
 pub mod Faults
 pub mod InnerReading
 pub mod InnerDrafts
+pub mod InnerPrinting

@@ -71,18 +71,11 @@ line_text l = line (fields_of l)
 -- ---- scenarios
 
 -- the version of the format is 1
-abbrev pub space_lines : SetupData → List Line
-space_lines s =
-    OneSetting setting.Gpt 1 ∷ OneSetting setting.Space s.gigabytes ∷ OneSetting setting.Max (max_count s.max)
-    ∷ OneSetting setting.Locks s.lock_blocks ∷ []
-
-abbrev pub table_lines : SetupData → List Line
-table_lines s =
-    OneSetting setting.First s.first ∷ OneSetting setting.Ring s.ring ∷ OneSetting setting.Tables s.tables
-    ∷ OneSetting setting.Base s.base ∷ []
-
 abbrev pub head_lines : SetupData → List Line
-head_lines s = space_lines s ++ table_lines s
+head_lines s =
+    OneSetting setting.Gpt 1 ∷ OneSetting setting.Space s.gigabytes ∷ OneSetting setting.Max (max_count s.max)
+    ∷ OneSetting setting.Locks s.lock_blocks ∷ OneSetting setting.First s.first ∷ OneSetting setting.Ring s.ring
+    ∷ OneSetting setting.Tables s.tables ∷ OneSetting setting.Base s.base ∷ []
 
 abbrev pub script_lines : Script → List Line
 script_lines (script.Agent asks) = NewAgent ∷ map OneAsk asks

@@ -1,5 +1,5 @@
 use Rattle.std.proofs.Common.{◌≡◌, ◌^◌, ◌<◌, drop}
-use Rattle.line_text.proofs.DigitLemmas.{rest_in}
+use Rattle.line_text.specs.InnerNumerals.{rest_in}
 use Rattle.line_text.proofs.numeral.value.Given as goal
 
 abbrev pub invariant-loop-byte : goal.invariant-loop-byte
