@@ -214,7 +214,7 @@ pub line_plain : (st : Standing) → InLimits st → (l : Line) → InRange st l
 line_plain st limits l v =
     let s = spoken st limits l v in
     subst (λ (fs : List (List ℕ)). IsPlainLine fs) (sym (fields_are st l s))
-        (omega arith, (word_plain (word_for l), row_plain (kinds_of st (word_for l)) s.values (good_kinds st (word_for l)) s.fits))
+    (omega arith, (word_plain (word_for l), row_plain (kinds_of st (word_for l)) s.values (good_kinds st (word_for l)) s.fits))
 
 -- ---- what is read is spelled so
 

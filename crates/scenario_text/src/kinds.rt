@@ -9,12 +9,19 @@ use gpt_descriptors::{GEN_LAST, REGION_BYTES};
 use line_text::{FieldKind, Range, RowFault, row};
 
 const ADDRESS: FieldKind = FieldKind::Address(Range::Any);
+
 const TURNS: FieldKind = FieldKind::Count(Range::Between(1, TURN_LIMIT));
+
 const KIND: FieldKind = FieldKind::Name(&["block", "granule"]);
+
 const GPI: FieldKind = FieldKind::Name(&["none", "secure", "nonsecure", "root", "realm", "any"]);
+
 const SPACE: FieldKind = FieldKind::Name(&["secure", "nonsecure", "root", "realm"]);
+
 const SOURCE: FieldKind = FieldKind::Name(&["realm", "secure"]);
+
 const WORLD: FieldKind = FieldKind::Name(&["realm", "secure", "nonsecure"]);
+
 const VERB: FieldKind = FieldKind::Name(&["delegate", "undelegate"]);
 
 /// What the value of a setting has to be.
@@ -34,11 +41,7 @@ fn setting_kind(setting: Setting) -> FieldKind
 }
 
 /// The values of the fields after a word, which are of these kinds.
-pub fn values_of(
-    standing: Standing,
-    word: Word,
-    rest: Option<&[u8]>,
-) -> Result<[u64; 4], RowFault>
+pub fn values_of(standing: Standing, word: Word, rest: Option<&[u8]>) -> Result<[u64; 4], RowFault>
     requires { standing.gigabytes ≤ 64 }
     ensures read { result ≡ ok_padded (read_row (kinds_of standing word) (fields_left rest.entry)) }
     ensures fits { IfOk result (λ values. FitsPrefix (kinds_of standing word) values) }

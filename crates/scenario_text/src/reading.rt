@@ -16,6 +16,7 @@ use line_text::cut;
 use region_plan::{Kind, Region};
 
 const KINDS: [Kind; 2] = [Kind::Block, Kind::Granule];
+
 const GPIS: [Gpi; 6] = [
     Gpi::NoAccess,
     Gpi::Secure,
@@ -24,13 +25,11 @@ const GPIS: [Gpi; 6] = [
     Gpi::Realm,
     Gpi::Any,
 ];
-const SPACES: [Space; 4] = [
-    Space::Secure,
-    Space::NonSecure,
-    Space::Root,
-    Space::Realm,
-];
+
+const SPACES: [Space; 4] = [Space::Secure, Space::NonSecure, Space::Root, Space::Realm];
+
 const SOURCES: [Source; 2] = [Source::Realm, Source::Secure];
+
 const WORLDS: [World; 3] = [World::Realm, World::Secure, World::NonSecure];
 
 fn monitor_call(verb: u64, pa: u64, world: World) -> Ask

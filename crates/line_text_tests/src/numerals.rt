@@ -1,4 +1,4 @@
-use scenario_text::{address_of, count_of};
+use line_text::{address_of, count_of};
 
 /// Fields, each with the count that it is.
 const COUNTS: [(&str, Option<u64>); 11] = [
