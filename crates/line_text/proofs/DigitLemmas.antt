@@ -1,4 +1,4 @@
--- Digits in base 10 and in base 16: the number that they spell, and how that number is spelt.
+-- Digits in base 10 and in base 16: the number that they spell, and how that number is spelled.
 use Rattle.std.proofs.Common.{◌≡◌, ◌≢◌, ℕ, suc, zero, ◌+◌, ◌-◌, ◌*◌, ◌/◌, ◌%◌, ◌^◌, ◌<◌, ◌≤◌, ◌⊎◌, inl, inr, Bool, true, false, not, ◌&&◌, ◌||◌, List, [], ◌∷◌, ◌++◌, length, get_or, drop, refl, sym, ◌∙◌, ap, subst, arith, eqb, cond, append-nil, Option, Some, None, nat_lt, if◌then◌else◌}
 use Rattle.std.specs.List.{list_all, fold}
 use Rattle.std.specs.Fmt.{digits, digits_onto, digit_glyph}
@@ -103,13 +103,13 @@ digits_is base n k e = ap (λ (j : ℕ). digits_onto j base false n []) (sym e)
 first_some : (base c more : ℕ) → is_digit_of base c ≡ true → (not (eqb c 48) || eqb (suc more) 0) ≡ true → 0 < digit_of c
 first_some base c more d lead = grind (arith, nat_tests)
 
-pub numeral_spelt : (base : ℕ) → IsBase base → (ds : List ℕ) → is_numeral base ds ≡ true → value_in base ds < 2 ^ 64 → digits base false (value_in base ds) ≡ ds
-numeral_spelt base b [] n lt = cc
-numeral_spelt base b (c ∷ []) n lt =
+pub numeral_spelled : (base : ℕ) → IsBase base → (ds : List ℕ) → is_numeral base ds ≡ true → value_in base ds < 2 ^ 64 → digits base false (value_in base ds) ≡ ds
+numeral_spelled base b [] n lt = cc
+numeral_spelled base b (c ∷ []) n lt =
     let p = and_parts (is_digit_of base c) true (and_parts (is_digit_of base c && true) _ n).0 in
     let r = digit_read base c b p.0 in
     ap (digits base false) (front_zero base (digit_of c)) ∙ digits_is base (digit_of c) 64 refl ∙ onto_last 63 base (digit_of c) [] b r.0 ∙ ap (λ (g : ℕ). g ∷ []) r.1
-numeral_spelt base b (c ∷ e ∷ es) n lt =
+numeral_spelled base b (c ∷ e ∷ es) n lt =
     let q = and_parts (list_all (is_digit_of base) (c ∷ e ∷ es)) _ n in
     let p = and_parts (is_digit_of base c) (list_all (is_digit_of base) (e ∷ es)) q.0 in
     let r = digit_read base c b p.0 in
@@ -186,7 +186,7 @@ numeral_read base b text n e =
     let s = if_some _ (value_in base text) n e in
     let p = and_parts (is_numeral base text) (nat_lt (value_in base text) (2 ^ 64)) s.0 in
     let lt = ltb-true (value_in base text) (2 ^ 64) p.1 in
-    (sym (numeral_spelt base b text p.0 lt) ∙ ap (digits base false) s.1, subst (λ (m : ℕ). m < 2 ^ 64) s.1 lt)
+    (sym (numeral_spelled base b text p.0 lt) ∙ ap (digits base false) s.1, subst (λ (m : ℕ). m < 2 ^ 64) s.1 lt)
 
 spells_numeral : (base n : ℕ) (ds : List ℕ) → Spells base n [] ds → is_numeral base ds ≡ true
 spells_numeral base n [] s = elim (cases_eq n 0) [ inl e ↦ absurd (let h = s.zero e in cc) | inr h ↦ absurd (s.lead (omega arith) refl) ]

@@ -1,7 +1,8 @@
 -- What is read of a row is spelled so and fits, what fits is read from its spelling, and a row's fault is the one
 -- that reading meets. Each is an induction over the kinds.
 use Rattle.std.proofs.Common.{◌≡◌, ℕ, zero, suc, ◌+◌, ltb, ◌<◌, ◌≤◌, ◌^◌, Bool, true, false, cond, List, [], ◌∷◌, length, map, take, get_or, Option, Some, None, Result, Ok, Err, refl, sym, ap, subst, ◌∙◌, arith, inl, inr, ◌⊎◌}
-use Rattle.std.specs.Prelude.{◌==◌, ◌&&◌, not, nat_lt, nat_le, position, is_some, IfOk, MatchResult}
+use Rattle.std.specs.Prelude.{◌==◌, ◌&&◌, not, nat_lt, nat_le, position, is_some, IfOk}
+use Rattle.std.specs.Result.{result_err}
 use Rattle.std.specs.List.{list_any, list_all, position_or_len, AllByRecursion}
 use Rattle.std.specs.Option.{ok_or, option_or}
 use Rattle.std.specs.Str.{bytes_eq}
@@ -18,7 +19,7 @@ use Rattle.line_text.specs.Lines.{count, address}
 use Rattle.line_text.specs.Numerals.{count_in, address_in}
 use Rattle.line_text.specs.Rows.{Range, Any, Between, Below, Among, is_in, FieldKind, Count, Address, Name, number_fault, field_fault, fields_fault, is_shaped, row_fault}
 use Rattle.line_text.specs.InnerRows.{◌>>=◌, IsAmong, InRange, FieldFits, Fits, FitsPrefix, name_at, spell_field, spell, ranged, read_field, next_of, has_shape, read_values, read_row, padded, ok_padded}
-use Rattle.line_text.proofs.Steps.{chosen, bind_ok, ok_same, err_same, fault_in}
+use Rattle.line_text.proofs.Steps.{chosen, bind_ok, ok_same, err_same}
 use Rattle.line_text.proofs.NumeralLemmas.{IsPlain, count_read, count_again, count_plain, address_read, address_again, address_plain}
 
 -- ---- ranges
@@ -147,16 +148,16 @@ named_ok : (o : Option ℕ) (v : ℕ) → ok_or o fault.Value ≡ Ok v → o ≡
 named_ok None v e = absurd cc
 named_ok (Some n) v e = ap (λ (m : ℕ). Some m) (ok_same {E = RowFault} n v e)
 
-field_spelt : (k : FieldKind) (field : List ℕ) (v : ℕ) → read_field k field ≡ Ok v → (field ≡ spell_field k v) × FieldFits k v
-field_spelt (Count r) field v e =
+field_spelled : (k : FieldKind) (field : List ℕ) (v : ℕ) → read_field k field ≡ Ok v → (field ≡ spell_field k v) × FieldFits k v
+field_spelled (Count r) field v e =
     let o = ranged_ok r (count_in field) v e in
     let n = count_read field v o.0 in
     (n.0, (in_range r v o.1, n.1))
-field_spelt (Address r) field v e =
+field_spelled (Address r) field v e =
     let o = ranged_ok r (address_in field) v e in
     let n = address_read field v o.0 in
     (n.0, (in_range r v o.1, n.1))
-field_spelt (Name names) field v e =
+field_spelled (Name names) field v e =
     let p = place_some (bytes_eq field) names v (named_ok (position (bytes_eq field) names) v e) in
     ((bytes_eq-Decides field (name_at names v)).0 p.1, p.0)
 
@@ -170,19 +171,19 @@ field_plain (Count r) v good fits = count_plain v fits.1
 field_plain (Address r) v good fits = address_plain v fits.1
 field_plain (Name names) v good fits = name_plain names v (and_parts (are_names names) true good).0 fits
 
-ranged_told : (r : Range) (o : Option ℕ) → fault_in (ranged r o) ≡ number_fault r o
-ranged_told r None = refl
-ranged_told r (Some n) = elim (cases_Bool (is_in r n)) [ inl t ↦ rw t refl | inr f ↦ rw f refl ]
+ranged_reported : (r : Range) (o : Option ℕ) → result_err (ranged r o) ≡ number_fault r o
+ranged_reported r None = refl
+ranged_reported r (Some n) = elim (cases_Bool (is_in r n)) [ inl t ↦ rw t refl | inr f ↦ rw f refl ]
 
-named_told : (o : Option ℕ) → fault_in (ok_or o fault.Value) ≡ cond (is_some o) None (Some fault.Value)
-named_told None = refl
-named_told (Some n) = refl
+named_reported : (o : Option ℕ) → result_err (ok_or o fault.Value) ≡ cond (is_some o) None (Some fault.Value)
+named_reported None = refl
+named_reported (Some n) = refl
 
-field_told : (k : FieldKind) (field : List ℕ) → fault_in (read_field k field) ≡ field_fault k field
-field_told (Count r) field = ranged_told r (count_in field)
-field_told (Address r) field = ranged_told r (address_in field)
-field_told (Name names) field =
-    named_told (position (bytes_eq field) names) ∙ ap (λ (b : Bool). cond b None (Some fault.Value)) (place_any (bytes_eq field) names)
+field_reported : (k : FieldKind) (field : List ℕ) → result_err (read_field k field) ≡ field_fault k field
+field_reported (Count r) field = ranged_reported r (count_in field)
+field_reported (Address r) field = ranged_reported r (address_in field)
+field_reported (Name names) field =
+    named_reported (position (bytes_eq field) names) ∙ ap (λ (b : Bool). cond b None (Some fault.Value)) (place_any (bytes_eq field) names)
 
 -- ---- the shape
 
@@ -247,13 +248,13 @@ unfolding read_values
 no_kinds [] vs e = (refl, ok_same {E = RowFault} [] vs e)
 no_kinds (f ∷ fs) vs e = absurd (let wrong = rw (ne_eqb (length (f ∷ fs)) 0 (λ e. omega arith)) at e in cc)
 
-values_spelt : (ks : List FieldKind) (fs : List (List ℕ)) (vs : List ℕ) → read_values ks fs ≡ Ok vs → (fs ≡ spell ks vs) × Fits ks vs
-values_spelt [] fs vs e = let n = no_kinds fs vs e in subst (λ (vs : List ℕ). (fs ≡ spell [] vs) × Fits [] vs) n.1 (n.0, tt)
-values_spelt (k ∷ ks) [] vs e = absurd (let wrong = sym (none_left k ks) ∙ e in cc)
-values_spelt (k ∷ ks) (f ∷ fs) vs e =
+values_spelled : (ks : List FieldKind) (fs : List (List ℕ)) (vs : List ℕ) → read_values ks fs ≡ Ok vs → (fs ≡ spell ks vs) × Fits ks vs
+values_spelled [] fs vs e = let n = no_kinds fs vs e in subst (λ (vs : List ℕ). (fs ≡ spell [] vs) × Fits [] vs) n.1 (n.0, tt)
+values_spelled (k ∷ ks) [] vs e = absurd (let wrong = sym (none_left k ks) ∙ e in cc)
+values_spelled (k ∷ ks) (f ∷ fs) vs e =
     let v = values_in k ks f fs vs e in
-    let first = field_spelt k f v.first v.first_read in
-    let more = values_spelt ks fs v.more v.more_read in
+    let first = field_spelled k f v.first v.first_read in
+    let more = values_spelled ks fs v.more v.more_read in
     subst (λ (vs : List ℕ). (f ∷ fs ≡ spell (k ∷ ks) vs) × Fits (k ∷ ks) vs) v.are ((λ i. first.0 i ∷ more.0 i), (first.1, more.1))
 
 values_shaped : (ks : List FieldKind) (fs : List (List ℕ)) (vs : List ℕ) → read_values ks fs ≡ Ok vs → has_shape ks fs ≡ true
@@ -286,32 +287,32 @@ values_again (k ∷ ks) (v ∷ vs) good fits =
     let some = (field_plain k v p.0 fits.0).1 in
     full_step k ks (spell_field k v) (spell ks vs) (ne_eqb _ 0 (λ e. omega arith)) ∙ rw (field_again k v p.0 fits.0, values_again ks vs p.1 fits.1) refl
 
-told_more : (r : Result (List ℕ) RowFault) (v : ℕ) → fault_in (r >>= λ vs. Ok (v ∷ vs)) ≡ fault_in r
-told_more (Ok vs) v = refl
-told_more (Err f) v = refl
+more_reported : (r : Result (List ℕ) RowFault) (v : ℕ) → result_err (r >>= λ vs. Ok (v ∷ vs)) ≡ result_err r
+more_reported (Ok vs) v = refl
+more_reported (Err f) v = refl
 
-told_step : (r : Result ℕ RowFault) (more : Result (List ℕ) RowFault) → fault_in (r >>= λ v. more >>= λ vs. Ok (v ∷ vs)) ≡ option_or (fault_in r) (fault_in more)
-told_step (Ok v) more = told_more more v
-told_step (Err f) more = refl
+step_reported : (r : Result ℕ RowFault) (more : Result (List ℕ) RowFault) → result_err (r >>= λ v. more >>= λ vs. Ok (v ∷ vs)) ≡ option_or (result_err r) (result_err more)
+step_reported (Ok v) more = more_reported more v
+step_reported (Err f) more = refl
 
-values_told : (ks : List FieldKind) (fs : List (List ℕ)) → has_shape ks fs ≡ true → fault_in (read_values ks fs) ≡ fields_fault ks fs
+values_reported : (ks : List FieldKind) (fs : List (List ℕ)) → has_shape ks fs ≡ true → result_err (read_values ks fs) ≡ fields_fault ks fs
 unfolding has_shape
-values_told [] [] e = ap fault_in no_values
-values_told [] (f ∷ fs) e = absurd (let wrong = rw (ne_eqb (length (f ∷ fs)) 0 (λ e. omega arith)) at e in cc)
-values_told (k ∷ ks) [] e = absurd cc
-values_told (k ∷ ks) (f ∷ fs) e =
+values_reported [] [] e = ap result_err no_values
+values_reported [] (f ∷ fs) e = absurd (let wrong = rw (ne_eqb (length (f ∷ fs)) 0 (λ e. omega arith)) at e in cc)
+values_reported (k ∷ ks) [] e = absurd cc
+values_reported (k ∷ ks) (f ∷ fs) e =
     let p = and_parts (not (length f == 0)) (has_shape ks fs) e in
-    ap fault_in (full_step k ks f fs (not-true _ p.0))
-    ∙ told_step (read_field k f) (read_values ks fs)
-    ∙ (λ i. option_or (field_told k f i) (values_told ks fs p.1 i))
+    ap result_err (full_step k ks f fs (not-true _ p.0))
+    ∙ step_reported (read_field k f) (read_values ks fs)
+    ∙ (λ i. option_or (field_reported k f i) (values_reported ks fs p.1 i))
 
 -- ---- rows
 
-pub row_told : (ks : List FieldKind) (fs : List (List ℕ)) → fault_in (read_row ks fs) ≡ row_fault ks fs
+pub row_reported : (ks : List FieldKind) (fs : List (List ℕ)) → result_err (read_row ks fs) ≡ row_fault ks fs
 unfolding read_row row_fault
-row_told ks fs =
+row_reported ks fs =
     elim (cases_Bool (is_shaped ks fs)) [
-      | inl t ↦ rw t (values_told ks fs (shape_is ks fs ∙ t))
+      | inl t ↦ rw t (values_reported ks fs (shape_is ks fs ∙ t))
       | inr f ↦ rw f refl
     ]
 
@@ -324,8 +325,8 @@ values_row : (ks : List FieldKind) (fs : List (List ℕ)) (vs : List ℕ) → re
 unfolding read_row
 values_row ks fs vs e = rw (sym (shape_is ks fs) ∙ values_shaped ks fs vs e) e
 
-pub row_spelt : (ks : List FieldKind) (fs : List (List ℕ)) (vs : List ℕ) → read_row ks fs ≡ Ok vs → (fs ≡ spell ks vs) × Fits ks vs
-row_spelt ks fs vs e = values_spelt ks fs vs (row_values ks fs vs e)
+pub row_spelled : (ks : List FieldKind) (fs : List (List ℕ)) (vs : List ℕ) → read_row ks fs ≡ Ok vs → (fs ≡ spell ks vs) × Fits ks vs
+row_spelled ks fs vs e = values_spelled ks fs vs (row_values ks fs vs e)
 
 pub row_again : (ks : List FieldKind) (vs : List ℕ) → are_kinds ks ≡ true → Fits ks vs → read_row ks (spell ks vs) ≡ Ok vs
 row_again ks vs good fits = values_row ks (spell ks vs) vs (values_again ks vs good fits)
@@ -354,11 +355,11 @@ padded_fits n (k ∷ ks) [] le fits = absurd fits
 padded_fits zero (k ∷ ks) (v ∷ vs) le fits = absurd (omega arith)
 padded_fits (suc n) (k ∷ ks) (v ∷ vs) le fits = (fits.0, padded_fits n ks vs (omega arith) fits.1)
 
-pub padded_spelt : (n : ℕ) (ks : List FieldKind) (vs : List ℕ) → length ks ≤ n → Fits ks vs → spell ks vs ≡ spell ks (padded n vs)
-padded_spelt n [] vs le fits = refl
-padded_spelt n (k ∷ ks) [] le fits = absurd fits
-padded_spelt zero (k ∷ ks) (v ∷ vs) le fits = absurd (omega arith)
-padded_spelt (suc n) (k ∷ ks) (v ∷ vs) le fits = ap (λ (fs : List (List ℕ)). spell_field k v ∷ fs) (padded_spelt n ks vs (omega arith) fits.1)
+pub padded_spells : (n : ℕ) (ks : List FieldKind) (vs : List ℕ) → length ks ≤ n → Fits ks vs → spell ks vs ≡ spell ks (padded n vs)
+padded_spells n [] vs le fits = refl
+padded_spells n (k ∷ ks) [] le fits = absurd fits
+padded_spells zero (k ∷ ks) (v ∷ vs) le fits = absurd (omega arith)
+padded_spells (suc n) (k ∷ ks) (v ∷ vs) le fits = ap (λ (fs : List (List ℕ)). spell_field k v ∷ fs) (padded_spells n ks vs (omega arith) fits.1)
 
 padded_ok : (r : Result (List ℕ) RowFault) (x : List ℕ) → Ok x ≡ ok_padded r → (vs : List ℕ) × (r ≡ Ok vs) × (x ≡ padded 4 vs)
 padded_ok (Ok vs) x e = (vs, refl, ok_same {E = RowFault} x (padded 4 vs) e)
@@ -386,16 +387,19 @@ row_of_bad ks fs bad = rw (sym (shape_is ks fs) ∙ bad) refl
 pub row_fits : (ks : List FieldKind) (fs : List (List ℕ)) (r : Result (List ℕ) RowFault) → length ks ≤ 4 → r ≡ ok_padded (read_row ks fs) → IfOk r (λ x. FitsPrefix ks x)
 row_fits ks fs (Ok x) le e =
     let vs = padded_ok (read_row ks fs) x e in
-    subst (λ (x : List ℕ). FitsPrefix ks x) (sym vs.2) (padded_fits 4 ks vs.0 le (row_spelt ks fs vs.0 vs.1).1)
+    subst (λ (x : List ℕ). FitsPrefix ks x) (sym vs.2) (padded_fits 4 ks vs.0 le (row_spelled ks fs vs.0 vs.1).1)
 row_fits ks fs (Err f) le e = tt
 
-pub row_spelled : (ks : List FieldKind) (fs : List (List ℕ)) (r : Result (List ℕ) RowFault) → length ks ≤ 4 → r ≡ ok_padded (read_row ks fs) → IfOk r (λ x. fs ≡ spell ks x)
-row_spelled ks fs (Ok x) le e =
+pub row_spelling : (ks : List FieldKind) (fs : List (List ℕ)) (r : Result (List ℕ) RowFault) → length ks ≤ 4 → r ≡ ok_padded (read_row ks fs) → IfOk r (λ x. fs ≡ spell ks x)
+row_spelling ks fs (Ok x) le e =
     let vs = padded_ok (read_row ks fs) x e in
-    let is = row_spelt ks fs vs.0 vs.1 in
-    subst (λ (x : List ℕ). fs ≡ spell ks x) (sym vs.2) (is.0 ∙ padded_spelt 4 ks vs.0 le is.1)
-row_spelled ks fs (Err f) le e = tt
+    let is = row_spelled ks fs vs.0 vs.1 in
+    subst (λ (x : List ℕ). fs ≡ spell ks x) (sym vs.2) (is.0 ∙ padded_spells 4 ks vs.0 le is.1)
+row_spelling ks fs (Err f) le e = tt
 
-pub row_faulty : (ks : List FieldKind) (fs : List (List ℕ)) (r : Result (List ℕ) RowFault) → r ≡ ok_padded (read_row ks fs) → MatchResult r (λ x. row_fault ks fs ≡ None) (λ f. row_fault ks fs ≡ Some f)
-row_faulty ks fs (Ok x) e = sym (row_told ks fs) ∙ ap fault_in (padded_ok (read_row ks fs) x e).1
-row_faulty ks fs (Err f) e = sym (row_told ks fs) ∙ ap fault_in (padded_err (read_row ks fs) f e)
+padded_fault : (r : Result (List ℕ) RowFault) → result_err (ok_padded r) ≡ result_err r
+padded_fault (Ok vs) = refl
+padded_fault (Err f) = refl
+
+pub row_faulty : (ks : List FieldKind) (fs : List (List ℕ)) (r : Result (List ℕ) RowFault) → r ≡ ok_padded (read_row ks fs) → result_err r ≡ row_fault ks fs
+row_faulty ks fs r e = ap result_err e ∙ padded_fault (read_row ks fs) ∙ row_reported ks fs

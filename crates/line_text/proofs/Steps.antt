@@ -1,5 +1,5 @@
 -- Which way a test or a step of reading went.
-use Rattle.std.proofs.Common.{◌≡◌, Bool, true, false, cond, Option, Some, None, Result, Ok, Err, refl, inl, inr, ◌⊎◌}
+use Rattle.std.proofs.Common.{◌≡◌, Bool, true, false, cond, Result, Ok, Err, refl, inl, inr, ◌⊎◌}
 use Rattle.line_text.specs.InnerRows.{◌>>=◌}
 
 pub chosen : {A : Type 0} (b : Bool) (x y z : A) → cond b x y ≡ z → ((b ≡ true) × (x ≡ z)) ⊎ ((b ≡ false) × (y ≡ z))
@@ -16,8 +16,3 @@ ok_same x y e = cc
 
 pub err_same : {A E : Type 0} (x y : E) → ◌≡◌ {A = Result A E} (Err x) (Err y) → x ≡ y
 err_same x y e = cc
-
--- the fault of a step, if it failed
-abbrev pub fault_in : {A E : Type 0} → Result A E → Option E
-fault_in (Ok x) = None
-fault_in (Err f) = Some f

@@ -42,6 +42,9 @@ kind_in (coded.Count r) = Count (range_in r)
 kind_in (coded.Address r) = Address (range_in r)
 kind_in (coded.Name names) = Name (map (λ name. name.now) names.now)
 
+abbrev pub kinds_in : List KindInCode → List FieldKind
+kinds_in kinds = map kind_in kinds
+
 -- ---- values that fit
 
 abbrev pub IsAmong : List ℕ → ℕ → Type 0

@@ -1,6 +1,7 @@
-ghost use Rattle.std.specs.Prelude.{◌≡◌, ◌≤◌, IfOk, MatchResult, length, map, take, None, Some};
+ghost use Rattle.std.specs.Prelude.{◌≡◌, ◌≤◌, IfOk, length};
+ghost use Rattle.std.specs.Result.{result_err};
 ghost use Rattle.line_text.specs.Rows.{row_fault};
-ghost use Rattle.line_text.specs.InnerRows.{kind_in, fields_left, has_shape, FitsPrefix, ok_padded, read_values, read_row, spell};
+ghost use Rattle.line_text.specs.InnerRows.{kinds_in, fields_left, has_shape, FitsPrefix, ok_padded, read_values, read_row, spell};
 
 use crate::cutting::{next_field, no_field};
 use crate::kind::{FieldKind, RowFault, value};
@@ -8,7 +9,7 @@ use crate::kind::{FieldKind, RowFault, value};
 /// Whether there are as many fields as kinds, none of them empty.
 #[tactic(auto, unfolding(crate::specs::InnerRows::has_shape, crate::specs::InnerRows::next_of))]
 fn fits(kinds: &[FieldKind], rest: Option<&[u8]>) -> bool
-    ensures { result ≡ has_shape (map kind_in kinds.now) (fields_left rest.entry) }
+    ensures { result ≡ has_shape (kinds_in kinds.now) (fields_left rest.entry) }
 {
     match kinds {
         [] => no_field(rest),
@@ -22,7 +23,7 @@ fn fits(kinds: &[FieldKind], rest: Option<&[u8]>) -> bool
 /// The values of some fields, with zeros after them, or the fault of the first bad one.
 #[tactic(auto, unfolding(crate::specs::InnerRows::read_values, crate::specs::InnerRows::next_of))]
 fn values(kinds: &[FieldKind], rest: Option<&[u8]>) -> Result<[u64; 4], RowFault>
-    ensures { result ≡ ok_padded (read_values (map kind_in kinds.now) (fields_left rest.entry)) }
+    ensures { result ≡ ok_padded (read_values (kinds_in kinds.now) (fields_left rest.entry)) }
 {
     match kinds {
         [] if no_field(rest) => Ok([0; 4]),
@@ -39,7 +40,7 @@ fn values(kinds: &[FieldKind], rest: Option<&[u8]>) -> Result<[u64; 4], RowFault
 /// The values of a row, or its fault: the shape is looked at again only where a field is bad.
 #[tactic(auto, using(crate::proofs::RowLemmas::row_of_values, crate::proofs::RowLemmas::row_of_fault, crate::proofs::RowLemmas::row_of_bad))]
 fn read(kinds: &[FieldKind], rest: Option<&[u8]>) -> Result<[u64; 4], RowFault>
-    ensures { result ≡ ok_padded (read_row (map kind_in kinds.now) (fields_left rest.entry)) }
+    ensures { result ≡ ok_padded (read_row (kinds_in kinds.now) (fields_left rest.entry)) }
 {
     match values(kinds, rest) {
         Ok(values) => Ok(values),
@@ -52,12 +53,12 @@ fn read(kinds: &[FieldKind], rest: Option<&[u8]>) -> Result<[u64; 4], RowFault>
 #[tactic(auto, using(crate::proofs::RowLemmas::row_faulty))]
 pub fn row(kinds: &[FieldKind], rest: Option<&[u8]>) -> Result<[u64; 4], RowFault>
     requires { length kinds.now ≤ 4 }
-    ensures read { result ≡ ok_padded (read_row (map kind_in kinds.now) (fields_left rest.entry)) }
-    ensures fits { IfOk result (λ values. FitsPrefix (map kind_in kinds.now) values) }
+    ensures read { result ≡ ok_padded (read_row (kinds_in kinds.now) (fields_left rest.entry)) }
+    ensures fits { IfOk result (λ values. FitsPrefix (kinds_in kinds.now) values) }
     // What is read is spelled so.
-    ensures spelled { IfOk result (λ values. fields_left rest.entry ≡ spell (map kind_in kinds.now) values) }
-    // The first bad field, and its fault.
-    ensures fault { MatchResult result (λ _. row_fault (map kind_in kinds.now) (fields_left rest.entry) ≡ None) (λ f. row_fault (map kind_in kinds.now) (fields_left rest.entry) ≡ Some f) }
+    ensures spelled { IfOk result (λ values. fields_left rest.entry ≡ spell (kinds_in kinds.now) values) }
+    // Its fault is that of its first bad field.
+    ensures fault { result_err result ≡ row_fault (kinds_in kinds.now) (fields_left rest.entry) }
 {
     read(kinds, rest)
 }

@@ -1,5 +1,5 @@
 -- Lists of lines that may come one after the other are the lines of well-formed scenarios, each of one. What comes
--- after a place is read from the right: a line is put in front of what comes after it.
+-- after a place is read from the right: a line is added before what comes after it.
 use Rattle.std.proofs.Common.{◌≡◌, ℕ, suc, ◌+◌, ◌*◌, ◌^◌, ◌<◌, ◌≤◌, true, List, [], ◌∷◌, ◌++◌, length, map, get_or, Option, Some, None, refl, sym, ap, subst, ◌∙◌, append_assoc, arith, inl, inr, ◌⊎◌}
 use Rattle.std.specs.Prelude.{◌==◌, sum_by}
 use Rattle.std.specs.List.{flat_map, AllByRecursion, fold}
@@ -21,41 +21,41 @@ use Rattle.scenario_text.specs.declared.scenario.Script.{Script}
 use Rattle.scenario_text.specs.declared.scenario.Script.TheVariants as script
 use Rattle.scenario_text.specs.declared.scenario.Slot.{Slot}
 use Rattle.scenario_text.specs.declared.scenario.Slot.TheVariants as slot
-use Rattle.scenario_text.specs.declared.standing.Place.{Place}
-use Rattle.scenario_text.specs.declared.standing.Place.TheVariants as stands
-use Rattle.scenario_text.specs.declared.standing.Standing.{Standing}
+use Rattle.scenario_text.specs.declared.context.Place.{Place}
+use Rattle.scenario_text.specs.declared.context.Place.TheVariants as places
+use Rattle.scenario_text.specs.declared.context.Context.{Context}
 use Rattle.scenario_text.specs.declared.word.Setting.{Setting}
 use Rattle.scenario_text.specs.declared.word.Setting.TheVariants as setting
 use Rattle.scenario_text.specs.declared.word.Word.TheVariants as word
 use Rattle.scenario_text.specs.Spelling.{max_count, head_lines, script_lines, lines_of, IsRegion, IsAsk, IsScript, IsSlot, turns_of, caller_limit, turn_limit, WellFormed}
-use Rattle.scenario_text.specs.Faults.{start, head_index, head_place, may_stand, setting_kind}
+use Rattle.scenario_text.specs.Faults.{start, head_index, head_place, may_come, setting_kind}
 use Rattle.scenario_text.specs.InnerReading.{InLimits, InRange, Next, word_for, gigabytes_after, after}
 use Rattle.scenario_text.specs.InnerDrafts.{DraftData, nothing_read, closed, with_ask, with_look, max_of, taken, taken_all, scenario_of}
 
 -- each line may come after the ones before it, and the last one is the end line
-abbrev pub Accepts : Standing → List Line → Type 0
-Accepts st [] = st.place ≡ stands.Ended
+abbrev pub Accepts : Context → List Line → Type 0
+Accepts st [] = st.place ≡ places.Ended
 Accepts st (l ∷ ls) = Next st l × Accepts (after st l) ls
 
-abbrev at : Place → ℕ → ℕ → ℕ → Standing
+abbrev at : Place → ℕ → ℕ → ℕ → Context
 at p g c t = record { place = p; gigabytes = g; callers = c; turns = t }
 
 -- a section may begin
 abbrev IsOpen : Place → Type 0
-IsOpen stands.Regions = Unit {0}
-IsOpen stands.InAgent = Unit {0}
-IsOpen stands.InCpu = Unit {0}
+IsOpen places.Regions = Unit {0}
+IsOpen places.InAgent = Unit {0}
+IsOpen places.InCpu = Unit {0}
 IsOpen p = ⊥
 
 -- the schedule or the end may follow
 abbrev IsBody : Place → Type 0
-IsBody stands.Schedule = Unit {0}
+IsBody places.Schedule = Unit {0}
 IsBody p = IsOpen p
 
 body_open : (p : Place) → IsOpen p → IsBody p
-body_open stands.Regions o = tt
-body_open stands.InAgent o = tt
-body_open stands.InCpu o = tt
+body_open places.Regions o = tt
+body_open places.InAgent o = tt
+body_open places.InCpu o = tt
 body_open p o = absurd o
 
 -- ---- limits
@@ -63,7 +63,7 @@ body_open p o = absurd o
 pub start_limits : InLimits start
 start_limits = record { gigabytes = omega arith; callers = omega arith; turns = omega arith }
 
-pub step_limits : (st : Standing) (l : Line) → Next st l → InLimits st → InLimits (after st l)
+pub step_limits : (st : Context) (l : Line) → Next st l → InLimits st → InLimits (after st l)
 step_limits st (says.OneSetting setting.Space n) nx limits =
     let small : n ≤ 64 = elim nx.values.0 [ inl e ↦ omega arith | inr e ↦ omega arith ] in
     record { gigabytes = small; callers = limits.callers; turns = limits.turns }
@@ -76,8 +76,8 @@ step_limits st l nx limits = record { gigabytes = limits.gigabytes; callers = li
 
 -- the settings from line k of the head on
 abbrev Follow : ℕ → List Setting → Type 0
-Follow k [] = head_place k ≡ stands.Regions
-Follow k (s ∷ ss) = (head_place k ≡ stands.Head k) × (head_index s ≡ k) × Follow (k + 1) ss
+Follow k [] = head_place k ≡ places.Regions
+Follow k (s ∷ ss) = (head_place k ≡ places.Head k) × (head_index s ≡ k) × Follow (k + 1) ss
 
 abbrev all_settings : List Setting
 all_settings = setting.Gpt ∷ setting.Space ∷ setting.Max ∷ setting.Locks ∷ setting.First ∷ setting.Ring ∷ setting.Tables ∷ setting.Base ∷ []
@@ -106,22 +106,22 @@ setting_lines (s ∷ ss) (v ∷ vs) = says.OneSetting s v ∷ setting_lines ss v
 abbrev gigabytes_in : ℕ → List Setting → List ℕ → ℕ
 gigabytes_in g [] vs = g
 gigabytes_in g (s ∷ ss) [] = g
-gigabytes_in g (s ∷ ss) (v ∷ vs) = gigabytes_in (gigabytes_after (at stands.Regions g 0 0) (says.OneSetting s v)) ss vs
+gigabytes_in g (s ∷ ss) (v ∷ vs) = gigabytes_in (gigabytes_after (at places.Regions g 0 0) (says.OneSetting s v)) ss vs
 
 record Headed (g : ℕ) (ss : List Setting) (ls : List Line) : Type 0 where
   values : List ℕ
   rest : List Line
   fits : Fits (map setting_kind ss) values
   lines : ls ≡ setting_lines ss values ++ rest
-  accepts : Accepts (at stands.Regions (gigabytes_in g ss values) 0 0) rest
+  accepts : Accepts (at places.Regions (gigabytes_in g ss values) 0 0) rest
 
-at_setting : (k : ℕ) (l : Line) → may_stand (stands.Head k) (word_for l) ≡ true → (s : Setting) × (n : ℕ) × (l ≡ says.OneSetting s n) × (head_index s ≡ k)
+at_setting : (k : ℕ) (l : Line) → may_come (places.Head k) (word_for l) ≡ true → (s : Setting) × (n : ℕ) × (l ≡ says.OneSetting s n) × (head_index s ≡ k)
 at_setting k (says.OneSetting s n) e = (s, n, refl, eqb-true (head_index s) k e)
 at_setting k (says.OneAsk (ask.Delegate pa s)) e = absurd cc
 at_setting k (says.OneSlot (slot.Turn c n)) e = absurd cc
 at_setting k l e = absurd cc
 
-gigabytes_same : (p : Place) (g c t : ℕ) (s : Setting) (n : ℕ) → gigabytes_after (at p g c t) (says.OneSetting s n) ≡ gigabytes_after (at stands.Regions g 0 0) (says.OneSetting s n)
+gigabytes_same : (p : Place) (g c t : ℕ) (s : Setting) (n : ℕ) → gigabytes_after (at p g c t) (says.OneSetting s n) ≡ gigabytes_after (at places.Regions g 0 0) (says.OneSetting s n)
 gigabytes_same p g c t setting.Space n = refl
 gigabytes_same p g c t s n = refl
 
@@ -130,11 +130,11 @@ heads k g [] ls follow accepts = record { values = []; rest = ls; fits = tt; lin
 heads k g (s ∷ ss) [] follow accepts = absurd (let wrong = sym follow.0 ∙ accepts in cc)
 heads k g (s ∷ ss) (l ∷ ls) follow accepts =
     let here = subst (λ (p : Place). Accepts (at p g 0 0) (l ∷ ls)) follow.0 accepts in
-    let said = at_setting k l here.0.stands in
+    let said = at_setting k l here.0.comes in
     let line : l ≡ says.OneSetting s said.1 = said.2 ∙ ap (λ (s : Setting). says.OneSetting s said.1) (same_setting said.0 s k said.3 follow.1) in
-    let put = subst (λ (l : Line). Accepts (at (stands.Head k) g 0 0) (l ∷ ls)) line here in
-    let next = subst (λ (j : ℕ). Accepts (at (head_place (j + 1)) (gigabytes_after (at (stands.Head k) g 0 0) (says.OneSetting s said.1)) 0 0) ls) follow.1 put.1 in
-    let more = heads (k + 1) (gigabytes_after (at stands.Regions g 0 0) (says.OneSetting s said.1)) ss ls follow.2 (subst (λ (g : ℕ). Accepts (at (head_place (k + 1)) g 0 0) ls) (gigabytes_same (stands.Head k) g 0 0 s said.1) next) in
+    let put = subst (λ (l : Line). Accepts (at (places.Head k) g 0 0) (l ∷ ls)) line here in
+    let next = subst (λ (j : ℕ). Accepts (at (head_place (j + 1)) (gigabytes_after (at (places.Head k) g 0 0) (says.OneSetting s said.1)) 0 0) ls) follow.1 put.1 in
+    let more = heads (k + 1) (gigabytes_after (at places.Regions g 0 0) (says.OneSetting s said.1)) ss ls follow.2 (subst (λ (g : ℕ). Accepts (at (head_place (k + 1)) g 0 0) ls) (gigabytes_same (places.Head k) g 0 0 s said.1) next) in
     record {
       values = said.1 ∷ more.values;
       rest = more.rest;
@@ -143,16 +143,16 @@ heads k g (s ∷ ss) (l ∷ ls) follow accepts =
       accepts = more.accepts;
     }
 
-heads_accepted : (k g : ℕ) (ss : List Setting) (vs : List ℕ) (rest : List Line) → Follow k ss → Fits (map setting_kind ss) vs → Accepts (at stands.Regions (gigabytes_in g ss vs) 0 0) rest → Accepts (at (head_place k) g 0 0) (setting_lines ss vs ++ rest)
+heads_accepted : (k g : ℕ) (ss : List Setting) (vs : List ℕ) (rest : List Line) → Follow k ss → Fits (map setting_kind ss) vs → Accepts (at places.Regions (gigabytes_in g ss vs) 0 0) rest → Accepts (at (head_place k) g 0 0) (setting_lines ss vs ++ rest)
 heads_accepted k g [] [] rest follow fits accepts = subst (λ (p : Place). Accepts (at p g 0 0) rest) (sym follow) accepts
 heads_accepted k g [] (v ∷ vs) rest follow fits accepts = absurd fits
 heads_accepted k g (s ∷ ss) [] rest follow fits accepts = absurd fits
 heads_accepted k g (s ∷ ss) (v ∷ vs) rest follow fits accepts =
-    let more = heads_accepted (k + 1) (gigabytes_after (at stands.Regions g 0 0) (says.OneSetting s v)) ss vs rest follow.2 fits.1 accepts in
-    let next = subst (λ (g : ℕ). Accepts (at (head_place (k + 1)) g 0 0) (setting_lines ss vs ++ rest)) (sym (gigabytes_same (stands.Head k) g 0 0 s v)) more in
-    let here : Accepts (at (stands.Head k) g 0 0) (says.OneSetting s v ∷ (setting_lines ss vs ++ rest)) = (
-      record { stands = eq-eqb (head_index s) k follow.1; values = fits.0 },
-      subst (λ (j : ℕ). Accepts (at (head_place (j + 1)) (gigabytes_after (at (stands.Head k) g 0 0) (says.OneSetting s v)) 0 0) (setting_lines ss vs ++ rest)) (sym follow.1) next,
+    let more = heads_accepted (k + 1) (gigabytes_after (at places.Regions g 0 0) (says.OneSetting s v)) ss vs rest follow.2 fits.1 accepts in
+    let next = subst (λ (g : ℕ). Accepts (at (head_place (k + 1)) g 0 0) (setting_lines ss vs ++ rest)) (sym (gigabytes_same (places.Head k) g 0 0 s v)) more in
+    let here : Accepts (at (places.Head k) g 0 0) (says.OneSetting s v ∷ (setting_lines ss vs ++ rest)) = (
+      record { comes = eq-eqb (head_index s) k follow.1; values = fits.0 },
+      subst (λ (j : ℕ). Accepts (at (head_place (j + 1)) (gigabytes_after (at (places.Head k) g 0 0) (says.OneSetting s v)) 0 0) (setting_lines ss vs ++ rest)) (sym follow.1) next,
     ) in
     subst (λ (p : Place). Accepts (at p g 0 0) (says.OneSetting s v ∷ (setting_lines ss vs ++ rest))) (sym follow.0) here
 
@@ -198,20 +198,20 @@ record Slots (c t : ℕ) (ls : List Line) : Type 0 where
   good : AllByRecursion (IsSlot c) slots
   turns : fold (λ n s. n + turns_of c s) t slots ≤ turn_limit
 
-ended : (g c t : ℕ) (ls : List Line) → Accepts (at stands.Ended g c t) ls → ls ≡ []
+ended : (g c t : ℕ) (ls : List Line) → Accepts (at places.Ended g c t) ls → ls ≡ []
 ended g c t [] accepts = refl
-ended g c t (l ∷ ls) accepts = absurd (let wrong = accepts.0.stands in cc)
+ended g c t (l ∷ ls) accepts = absurd (let wrong = accepts.0.comes in cc)
 
 -- no line but those of the schedule and the end
-slots_right : (g c t : ℕ) (ls : List Line) → t ≤ turn_limit → Accepts (at stands.Schedule g c t) ls → Slots c t ls
+slots_right : (g c t : ℕ) (ls : List Line) → t ≤ turn_limit → Accepts (at places.Schedule g c t) ls → Slots c t ls
 slots_right g c t [] le accepts = absurd cc
 slots_right g c t (says.OneSlot s ∷ ls) le accepts =
     let more = slots_right g c (t + turns_of c s) ls accepts.0.values.1 accepts.1 in
     record { slots = s ∷ more.slots; lines = ap (λ (z : List Line). says.OneSlot s ∷ z) more.lines; good = (accepts.0.values.0, more.good); turns = more.turns }
 slots_right g c t (says.End ∷ ls) le accepts =
     record { slots = []; lines = ap (λ (z : List Line). says.End ∷ z) (ended g c t ls accepts.1); good = tt; turns = le }
-slots_right g c t (says.OneAsk (ask.Delegate pa s) ∷ ls) le accepts = absurd (let wrong = accepts.0.stands in cc)
-slots_right g c t (l ∷ ls) le accepts = absurd (let wrong = accepts.0.stands in cc)
+slots_right g c t (says.OneAsk (ask.Delegate pa s) ∷ ls) le accepts = absurd (let wrong = accepts.0.comes in cc)
+slots_right g c t (l ∷ ls) le accepts = absurd (let wrong = accepts.0.comes in cc)
 
 -- ---- sections, from the right
 
@@ -229,21 +229,21 @@ record Sections (s : SetupData) (c t : ℕ) (ls : List Line) : Type 0 where
 
 -- the lines of a place, before the next section
 abbrev Lead : Place → Type 0
-Lead stands.Regions = List Region
-Lead stands.InAgent = List Ask
-Lead stands.InCpu = List Look
+Lead places.Regions = List Region
+Lead places.InAgent = List Ask
+Lead places.InCpu = List Look
 Lead p = Unit {0}
 
 abbrev lead_lines : (p : Place) → Lead p → List Line
-lead_lines stands.Regions rs = map says.OneRegion rs
-lead_lines stands.InAgent asks = map says.OneAsk asks
-lead_lines stands.InCpu looks = map says.OneLook looks
+lead_lines places.Regions rs = map says.OneRegion rs
+lead_lines places.InAgent asks = map says.OneAsk asks
+lead_lines places.InCpu looks = map says.OneLook looks
 lead_lines p u = []
 
 abbrev IsLead : SetupData → (p : Place) → Lead p → Type 0
-IsLead s stands.Regions rs = AllByRecursion IsRegion rs
-IsLead s stands.InAgent asks = AllByRecursion IsAsk asks
-IsLead s stands.InCpu looks = AllByRecursion (λ look. look.pa < space_bytes s) looks
+IsLead s places.Regions rs = AllByRecursion IsRegion rs
+IsLead s places.InAgent asks = AllByRecursion IsAsk asks
+IsLead s places.InCpu looks = AllByRecursion (λ look. look.pa < space_bytes s) looks
 IsLead s p u = Unit {0}
 
 record Rest (s : SetupData) (p : Place) (c t : ℕ) (ls : List Line) : Type 0 where
@@ -254,12 +254,12 @@ record Rest (s : SetupData) (p : Place) (c t : ℕ) (ls : List Line) : Type 0 wh
   sections : Sections s c t more
 
 no_lead : (s : SetupData) (p : Place) (c t : ℕ) (ls : List Line) → Sections s c t ls → Rest s p c t ls
-no_lead s stands.Regions c t ls sections = record { lead = []; good = tt; more = ls; lines = refl; sections = sections }
-no_lead s stands.InAgent c t ls sections = record { lead = []; good = tt; more = ls; lines = refl; sections = sections }
-no_lead s stands.InCpu c t ls sections = record { lead = []; good = tt; more = ls; lines = refl; sections = sections }
+no_lead s places.Regions c t ls sections = record { lead = []; good = tt; more = ls; lines = refl; sections = sections }
+no_lead s places.InAgent c t ls sections = record { lead = []; good = tt; more = ls; lines = refl; sections = sections }
+no_lead s places.InCpu c t ls sections = record { lead = []; good = tt; more = ls; lines = refl; sections = sections }
 no_lead s p c t ls sections = record { lead = tt; good = tt; more = ls; lines = refl; sections = sections }
 
-agent_before : (s : SetupData) (c t : ℕ) (ls : List Line) → Rest s stands.InAgent (c + 1) t ls → Sections s c t (says.NewAgent ∷ ls)
+agent_before : (s : SetupData) (c t : ℕ) (ls : List Line) → Rest s places.InAgent (c + 1) t ls → Sections s c t (says.NewAgent ∷ ls)
 agent_before s c t ls r = let n = r.sections in record {
   scripts = script.Agent r.lead ∷ n.scripts;
   slots = n.slots;
@@ -273,7 +273,7 @@ agent_before s c t ls r = let n = r.sections in record {
   turns = n.turns;
 }
 
-cpu_before : (s : SetupData) (c t : ℕ) (ls : List Line) → Rest s stands.InCpu (c + 1) t ls → Sections s c t (says.NewCpu ∷ ls)
+cpu_before : (s : SetupData) (c t : ℕ) (ls : List Line) → Rest s places.InCpu (c + 1) t ls → Sections s c t (says.NewCpu ∷ ls)
 cpu_before s c t ls r = let n = r.sections in record {
   scripts = script.Cpu r.lead ∷ n.scripts;
   slots = n.slots;
@@ -304,23 +304,23 @@ no_sections s c t ls few x = record {
 }
 
 rest_of : (s : SetupData) (p : Place) (c t : ℕ) (ls : List Line) → c ≤ caller_limit → t ≤ turn_limit → IsOpen p → Accepts (at p s.gigabytes c t) ls → Rest s p c t ls
-rest_of s (stands.Head k) c t ls few le o accepts = absurd o
-rest_of s stands.Schedule c t ls few le o accepts = absurd o
-rest_of s stands.Ended c t ls few le o accepts = absurd o
+rest_of s (places.Head k) c t ls few le o accepts = absurd o
+rest_of s places.Schedule c t ls few le o accepts = absurd o
+rest_of s places.Ended c t ls few le o accepts = absurd o
 rest_of s p c t [] few le o accepts = absurd cc
-rest_of s stands.Regions c t (says.OneRegion r ∷ ls) few le o accepts =
-    let n = rest_of s stands.Regions c t ls few le tt accepts.1 in
+rest_of s places.Regions c t (says.OneRegion r ∷ ls) few le o accepts =
+    let n = rest_of s places.Regions c t ls few le tt accepts.1 in
     record { lead = r ∷ n.lead; good = (accepts.0.values, n.good); more = n.more; lines = ap (λ (z : List Line). says.OneRegion r ∷ z) n.lines; sections = n.sections }
-rest_of s stands.InAgent c t (says.OneAsk a ∷ ls) few le o accepts =
-    let n = rest_of s stands.InAgent c t ls few le tt accepts.1 in
+rest_of s places.InAgent c t (says.OneAsk a ∷ ls) few le o accepts =
+    let n = rest_of s places.InAgent c t ls few le tt accepts.1 in
     record { lead = a ∷ n.lead; good = (accepts.0.values, n.good); more = n.more; lines = ap (λ (z : List Line). says.OneAsk a ∷ z) n.lines; sections = n.sections }
-rest_of s stands.InCpu c t (says.OneLook l ∷ ls) few le o accepts =
-    let n = rest_of s stands.InCpu c t ls few le tt accepts.1 in
+rest_of s places.InCpu c t (says.OneLook l ∷ ls) few le o accepts =
+    let n = rest_of s places.InCpu c t ls few le tt accepts.1 in
     record { lead = l ∷ n.lead; good = (accepts.0.values.0, n.good); more = n.more; lines = ap (λ (z : List Line). says.OneLook l ∷ z) n.lines; sections = n.sections }
 rest_of s p c t (says.NewAgent ∷ ls) few le o accepts =
-    no_lead s p c t (says.NewAgent ∷ ls) (agent_before s c t ls (rest_of s stands.InAgent (c + 1) t ls (let h = accepts.0.values in omega arith) le tt accepts.1))
+    no_lead s p c t (says.NewAgent ∷ ls) (agent_before s c t ls (rest_of s places.InAgent (c + 1) t ls (let h = accepts.0.values in omega arith) le tt accepts.1))
 rest_of s p c t (says.NewCpu ∷ ls) few le o accepts =
-    no_lead s p c t (says.NewCpu ∷ ls) (cpu_before s c t ls (rest_of s stands.InCpu (c + 1) t ls (let h = accepts.0.values in omega arith) le tt accepts.1))
+    no_lead s p c t (says.NewCpu ∷ ls) (cpu_before s c t ls (rest_of s places.InCpu (c + 1) t ls (let h = accepts.0.values in omega arith) le tt accepts.1))
 rest_of s p c t (says.OneSlot x ∷ ls) few le o accepts =
     let n = slots_right s.gigabytes c (t + turns_of c x) ls accepts.0.values.1 accepts.1 in
     no_lead s p c t (says.OneSlot x ∷ ls) (no_sections s c t (says.OneSlot x ∷ ls) few (record {
@@ -336,8 +336,8 @@ rest_of s p c t (says.End ∷ ls) few le o accepts =
       good = tt;
       turns = le;
     }))
-rest_of s p c t (says.OneAsk (ask.Delegate pa w) ∷ ls) few le o accepts = absurd (let wrong = accepts.0.stands in cc)
-rest_of s p c t (l ∷ ls) few le o accepts = absurd (let wrong = accepts.0.stands in cc)
+rest_of s p c t (says.OneAsk (ask.Delegate pa w) ∷ ls) few le o accepts = absurd (let wrong = accepts.0.comes in cc)
+rest_of s p c t (l ∷ ls) few le o accepts = absurd (let wrong = accepts.0.comes in cc)
 
 -- ---- accepted lines are those of a scenario
 
@@ -353,7 +353,7 @@ lines_right s = simp append_assoc
 zero_add : (n : ℕ) → 0 + n ≡ n
 zero_add n = omega arith
 
-scenario_right : (setup : SetupData) (rest : List Line) → IsSetup setup → setup.base < 2 ^ 64 → Rest setup stands.Regions 0 0 rest → OfScenario (head_lines setup ++ rest)
+scenario_right : (setup : SetupData) (rest : List Line) → IsSetup setup → setup.base < 2 ^ 64 → Rest setup places.Regions 0 0 rest → OfScenario (head_lines setup ++ rest)
 scenario_right setup rest good base r =
     let n = r.sections in
     let s : Scenario = record { setup = setup; regions = r.lead; scripts = n.scripts; schedule = n.slots } in
@@ -376,52 +376,52 @@ accepted ls accepts =
     let h = heads 0 0 all_settings ls all_follow accepts in
     let head = each_row (map setting_kind all_settings) IsHead is_head h.values h.fits in
     let setup = setup_from h.values in
-    let more = rest_of setup stands.Regions 0 0 h.rest (omega arith) (omega arith) tt (subst (λ (g : ℕ). Accepts (at stands.Regions g 0 0) h.rest) head.gigabytes h.accepts) in
+    let more = rest_of setup places.Regions 0 0 h.rest (omega arith) (omega arith) tt (subst (λ (g : ℕ). Accepts (at places.Regions g 0 0) h.rest) head.gigabytes h.accepts) in
     let of = scenario_right setup h.rest head.setup head.base more in
     (of.0, of.1, h.lines ∙ ap (λ (z : List Line). z ++ h.rest) head.lines ∙ of.2)
 
 -- ---- the lines of a scenario are accepted
 
-agent_may : (p : Place) → IsOpen p → may_stand p word.Agent ≡ true
-agent_may stands.Regions o = refl
-agent_may stands.InAgent o = refl
-agent_may stands.InCpu o = refl
+agent_may : (p : Place) → IsOpen p → may_come p word.Agent ≡ true
+agent_may places.Regions o = refl
+agent_may places.InAgent o = refl
+agent_may places.InCpu o = refl
 agent_may p o = absurd o
 
-cpu_may : (p : Place) → IsOpen p → may_stand p word.Cpu ≡ true
-cpu_may stands.Regions o = refl
-cpu_may stands.InAgent o = refl
-cpu_may stands.InCpu o = refl
+cpu_may : (p : Place) → IsOpen p → may_come p word.Cpu ≡ true
+cpu_may places.Regions o = refl
+cpu_may places.InAgent o = refl
+cpu_may places.InCpu o = refl
 cpu_may p o = absurd o
 
-slot_may : (s : Slot) (p : Place) → IsBody p → may_stand p (word_for (says.OneSlot s)) ≡ true
-slot_may (slot.Turn c n) (stands.Head k) o = absurd o
-slot_may (slot.Turn c n) stands.Ended o = absurd o
-slot_may (slot.Round n t) (stands.Head k) o = absurd o
-slot_may (slot.Round n t) stands.Ended o = absurd o
+slot_may : (s : Slot) (p : Place) → IsBody p → may_come p (word_for (says.OneSlot s)) ≡ true
+slot_may (slot.Turn c n) (places.Head k) o = absurd o
+slot_may (slot.Turn c n) places.Ended o = absurd o
+slot_may (slot.Round n t) (places.Head k) o = absurd o
+slot_may (slot.Round n t) places.Ended o = absurd o
 slot_may (slot.Turn c n) p o = refl
 slot_may (slot.Round n t) p o = refl
 
-end_may : (p : Place) → IsBody p → may_stand p word.End ≡ true
-end_may (stands.Head k) o = absurd o
-end_may stands.Ended o = absurd o
+end_may : (p : Place) → IsBody p → may_come p word.End ≡ true
+end_may (places.Head k) o = absurd o
+end_may places.Ended o = absurd o
 end_may p o = refl
 
-ask_may : (a : Ask) → may_stand stands.InAgent (word_for (says.OneAsk a)) ≡ true
+ask_may : (a : Ask) → may_come places.InAgent (word_for (says.OneAsk a)) ≡ true
 ask_may (ask.Delegate pa s) = refl
 ask_may a = refl
 
-regions_accepted : (g c t : ℕ) (rs : List Region) (rest : List Line) → AllByRecursion IsRegion rs → Accepts (at stands.Regions g c t) rest → Accepts (at stands.Regions g c t) (map says.OneRegion rs ++ rest)
+regions_accepted : (g c t : ℕ) (rs : List Region) (rest : List Line) → AllByRecursion IsRegion rs → Accepts (at places.Regions g c t) rest → Accepts (at places.Regions g c t) (map says.OneRegion rs ++ rest)
 regions_accepted g c t [] rest good accepts = accepts
-regions_accepted g c t (r ∷ rs) rest good accepts = (record { stands = refl; values = good.0 }, regions_accepted g c t rs rest good.1 accepts)
+regions_accepted g c t (r ∷ rs) rest good accepts = (record { comes = refl; values = good.0 }, regions_accepted g c t rs rest good.1 accepts)
 
-asks_accepted : (g c t : ℕ) (asks : List Ask) (rest : List Line) → AllByRecursion IsAsk asks → Accepts (at stands.InAgent g c t) rest → Accepts (at stands.InAgent g c t) (map says.OneAsk asks ++ rest)
+asks_accepted : (g c t : ℕ) (asks : List Ask) (rest : List Line) → AllByRecursion IsAsk asks → Accepts (at places.InAgent g c t) rest → Accepts (at places.InAgent g c t) (map says.OneAsk asks ++ rest)
 asks_accepted g c t [] rest good accepts = accepts
-asks_accepted g c t (a ∷ asks) rest good accepts = (record { stands = ask_may a; values = good.0 }, asks_accepted g c t asks rest good.1 accepts)
+asks_accepted g c t (a ∷ asks) rest good accepts = (record { comes = ask_may a; values = good.0 }, asks_accepted g c t asks rest good.1 accepts)
 
-looks_accepted : (g c t : ℕ) (looks : List Look) (rest : List Line) → g ≤ 64 → AllByRecursion (λ look. look.pa < g * region_bytes) looks → Accepts (at stands.InCpu g c t) rest → Accepts (at stands.InCpu g c t) (map says.OneLook looks ++ rest)
+looks_accepted : (g c t : ℕ) (looks : List Look) (rest : List Line) → g ≤ 64 → AllByRecursion (λ look. look.pa < g * region_bytes) looks → Accepts (at places.InCpu g c t) rest → Accepts (at places.InCpu g c t) (map says.OneLook looks ++ rest)
 looks_accepted g c t [] rest le good accepts = accepts
-looks_accepted g c t (a ∷ looks) rest le good accepts = (record { stands = refl; values = (good.0, let h = good.0 in omega arith) }, looks_accepted g c t looks rest le good.1 accepts)
+looks_accepted g c t (a ∷ looks) rest le good accepts = (record { comes = refl; values = (good.0, let h = good.0 in omega arith) }, looks_accepted g c t looks rest le good.1 accepts)
 
 one_more : (c n : ℕ) → c + suc n ≡ (c + 1) + n
 one_more c n = omega arith
@@ -434,23 +434,23 @@ scripts_accepted : (setup : SetupData) (p : Place) (c t : ℕ) (scripts : List S
     → ((q : Place) → IsOpen q → Accepts (at q setup.gigabytes (c + length scripts) t) rest) → Accepts (at p setup.gigabytes c t) (flat_map script_lines scripts ++ rest)
 scripts_accepted setup p c t [] rest small o good few accepts = subst (λ (n : ℕ). Accepts (at p setup.gigabytes n t) rest) (add_zero c) (accepts p o)
 scripts_accepted setup p c t (script.Agent asks ∷ scripts) rest small o good few accepts =
-    let after_it = scripts_accepted setup stands.InAgent (c + 1) t scripts rest small tt good.1 (omega arith) (λ q oq. subst (λ (n : ℕ). Accepts (at q setup.gigabytes n t) rest) (one_more c (length scripts)) (accepts q oq)) in (
-      record { stands = agent_may p o; values = omega arith },
-      subst (λ (z : List Line). Accepts (at stands.InAgent setup.gigabytes (c + 1) t) z) (sym (append_assoc (map says.OneAsk asks) (flat_map script_lines scripts) rest))
+    let after_it = scripts_accepted setup places.InAgent (c + 1) t scripts rest small tt good.1 (omega arith) (λ q oq. subst (λ (n : ℕ). Accepts (at q setup.gigabytes n t) rest) (one_more c (length scripts)) (accepts q oq)) in (
+      record { comes = agent_may p o; values = omega arith },
+      subst (λ (z : List Line). Accepts (at places.InAgent setup.gigabytes (c + 1) t) z) (sym (append_assoc (map says.OneAsk asks) (flat_map script_lines scripts) rest))
           (asks_accepted setup.gigabytes (c + 1) t asks (flat_map script_lines scripts ++ rest) good.0 after_it),
     )
 scripts_accepted setup p c t (script.Cpu looks ∷ scripts) rest small o good few accepts =
-    let after_it = scripts_accepted setup stands.InCpu (c + 1) t scripts rest small tt good.1 (omega arith) (λ q oq. subst (λ (n : ℕ). Accepts (at q setup.gigabytes n t) rest) (one_more c (length scripts)) (accepts q oq)) in (
-      record { stands = cpu_may p o; values = omega arith },
-      subst (λ (z : List Line). Accepts (at stands.InCpu setup.gigabytes (c + 1) t) z) (sym (append_assoc (map says.OneLook looks) (flat_map script_lines scripts) rest))
+    let after_it = scripts_accepted setup places.InCpu (c + 1) t scripts rest small tt good.1 (omega arith) (λ q oq. subst (λ (n : ℕ). Accepts (at q setup.gigabytes n t) rest) (one_more c (length scripts)) (accepts q oq)) in (
+      record { comes = cpu_may p o; values = omega arith },
+      subst (λ (z : List Line). Accepts (at places.InCpu setup.gigabytes (c + 1) t) z) (sym (append_assoc (map says.OneLook looks) (flat_map script_lines scripts) rest))
           (looks_accepted setup.gigabytes (c + 1) t looks (flat_map script_lines scripts ++ rest) small good.0 after_it),
     )
 
 slots_accepted : (p : Place) (g c t : ℕ) (slots : List Slot) → IsBody p → AllByRecursion (IsSlot c) slots → fold (λ n s. n + turns_of c s) t slots ≤ turn_limit → Accepts (at p g c t) (map says.OneSlot slots ++ says.End ∷ [])
-slots_accepted p g c t [] b good few = (record { stands = end_may p b; values = tt }, refl)
+slots_accepted p g c t [] b good few = (record { comes = end_may p b; values = tt }, refl)
 slots_accepted p g c t (s ∷ slots) b good few =
     let grows = fold_grows c (t + turns_of c s) slots in
-    (record { stands = slot_may s p b; values = (good.0, omega arith) }, slots_accepted stands.Schedule g c (t + turns_of c s) slots tt good.1 few)
+    (record { comes = slot_may s p b; values = (good.0, omega arith) }, slots_accepted places.Schedule g c (t + turns_of c s) slots tt good.1 few)
 
 setup_small : (s : SetupData) → IsSetup s → s.gigabytes ≤ 64
 setup_small s setup = elim setup.gigabytes [ inl e ↦ omega arith | inr e ↦ omega arith ]
@@ -489,7 +489,7 @@ accepts_lines s w =
     let n = length s.scripts in
     let slots : (q : Place) → IsOpen q → Accepts (at q g (0 + n) 0) (map says.OneSlot s.schedule ++ says.End ∷ []) =
     λ q o. subst (λ (k : ℕ). Accepts (at q g k 0) (map says.OneSlot s.schedule ++ says.End ∷ [])) (sym (zero_add n)) (slots_accepted q g n 0 s.schedule (body_open q o) w.slots w.turns) in
-    let scripts = scripts_accepted s.setup stands.Regions 0 0 s.scripts (map says.OneSlot s.schedule ++ says.End ∷ []) (setup_small s.setup w.setup) tt w.scripts (let h = w.callers in omega arith) slots in
+    let scripts = scripts_accepted s.setup places.Regions 0 0 s.scripts (map says.OneSlot s.schedule ++ says.End ∷ []) (setup_small s.setup w.setup) tt w.scripts (let h = w.callers in omega arith) slots in
     let regions = regions_accepted g 0 0 s.regions (flat_map script_lines s.scripts ++ (map says.OneSlot s.schedule ++ says.End ∷ [])) w.regions scripts in
     subst (λ (z : List Line). Accepts start z) (sym (lines_right s)) (heads_accepted 0 0 all_settings (values_of s.setup) _ all_follow (setup_fits s.setup w.setup w.base) regions)
 

@@ -3,6 +3,7 @@
 -- gives one line of said, and a line one of spoken.
 use Rattle.std.proofs.Common.{◌≡◌, ℕ, ◌+◌, ◌*◌, ◌^◌, ◌<◌, ◌≤◌, Bool, true, false, cond, List, [], ◌∷◌, length, map, get_or, drop, Option, Some, None, Result, Ok, Err, refl, sym, ap, subst, ◌∙◌, arith, inl, inr, ◌⊎◌}
 use Rattle.std.specs.Prelude.{◌==◌, ◌&&◌, nat_lt, nat_le, codes, unwrap_or}
+use Rattle.std.specs.Result.{result_err}
 use Rattle.std.specs.List.{AllByRecursion, find}
 use Rattle.std.specs.Option.{option_or, option_map}
 use Rattle.std.specs.Str.{bytes_eq}
@@ -22,10 +23,10 @@ use Rattle.gpt_descriptors.specs.Sizes.{region_bytes}
 use Rattle.line_text.specs.declared.kind.RowFault.{RowFault}
 use Rattle.line_text.specs.Rows.{row_fault}
 use Rattle.line_text.specs.InnerRows.{◌>>=◌, Fits, spell, spell_field, padded, ok_padded, read_row}
-use Rattle.line_text.proofs.Steps.{chosen, ok_same, fault_in}
+use Rattle.line_text.proofs.Steps.{chosen, ok_same}
 use Rattle.line_text.proofs.NumeralLemmas.{count_again}
 use Rattle.line_text.proofs.LineLemmas.{IsPlainLine}
-use Rattle.line_text.proofs.RowLemmas.{are_kinds, IsPlainField, plain_field, row_told, row_spelt, row_again, row_plain, ForRow, each_row, name_of_place}
+use Rattle.line_text.proofs.RowLemmas.{are_kinds, IsPlainField, plain_field, row_reported, row_spelled, row_again, row_plain, ForRow, each_row, name_of_place}
 use Rattle.region_plan.specs.declared.region.Kind.{Kind}
 use Rattle.region_plan.specs.declared.region.Kind.TheVariants as kind
 use Rattle.scenario_text.specs.declared.line.Line.{Line}
@@ -35,15 +36,15 @@ use Rattle.scenario_text.specs.declared.scenario.Slot.{Slot}
 use Rattle.scenario_text.specs.declared.scenario.Slot.TheVariants as slot
 use Rattle.scenario_text.specs.declared.scenario.Fault.{Fault}
 use Rattle.scenario_text.specs.declared.scenario.Fault.TheVariants as fault
-use Rattle.scenario_text.specs.declared.standing.Place.{Place}
-use Rattle.scenario_text.specs.declared.standing.Place.TheVariants as stands
-use Rattle.scenario_text.specs.declared.standing.Standing.{Standing}
+use Rattle.scenario_text.specs.declared.context.Place.{Place}
+use Rattle.scenario_text.specs.declared.context.Place.TheVariants as places
+use Rattle.scenario_text.specs.declared.context.Context.{Context}
 use Rattle.scenario_text.specs.declared.word.Setting.{Setting}
 use Rattle.scenario_text.specs.declared.word.Setting.TheVariants as setting
 use Rattle.scenario_text.specs.declared.word.Word.{Word}
 use Rattle.scenario_text.specs.declared.word.Word.TheVariants as word
 use Rattle.scenario_text.specs.Spelling.{count, address, setting_value, kind_name, fields_of, caller_limit, turn_limit, turns_of, IsRegion, IsAsk, IsSlot}
-use Rattle.scenario_text.specs.Faults.{word_text, all_words, word_of, may_stand, setting_kind, kinds_of, number_of, line_turns, is_caller, fault_of, known_word_fault, line_fault, after_line, is_ended}
+use Rattle.scenario_text.specs.Faults.{word_text, all_words, word_of, may_come, setting_kind, kinds_of, number_of, line_turns, is_caller, fault_of, known_word_fault, line_fault, after_line, is_ended}
 use Rattle.scenario_text.specs.InnerReading.{all_gpis, all_spaces, all_sources, all_worlds, all_kinds, monitor_call, line_with, in_turns, or_fault, read_values, read_word, read_known, read_fields, read_line, InLimits, word_for, InRange, Next, place_after, gigabytes_after, callers_after, after}
 
 -- ---- words
@@ -104,19 +105,19 @@ kind_placed kind.Granule = (1, omega arith, refl)
 -- ---- what each word's line says
 
 -- the values that a line may have, if its turns have room
-abbrev IsGood : Standing → Line → Type 0
+abbrev IsGood : Context → Line → Type 0
 IsGood st (says.OneSlot s) = IsSlot st.callers s
 IsGood st l = InRange st l
 
-abbrev HasRoom : Standing → Line → Type 0
+abbrev HasRoom : Context → Line → Type 0
 HasRoom st (says.OneSlot s) = st.turns + turns_of st.callers s ≤ turn_limit
 HasRoom st l = Unit {0}
 
-in_range : (st : Standing) (l : Line) → IsGood st l → HasRoom st l → InRange st l
+in_range : (st : Context) (l : Line) → IsGood st l → HasRoom st l → InRange st l
 in_range st (says.OneSlot s) good room = (good, room)
 in_range st l good room = good
 
-record Said (st : Standing) (w : Word) (vs : List ℕ) : Type 0 where
+record Said (st : Context) (w : Word) (vs : List ℕ) : Type 0 where
   fields : word_text w ∷ spell (kinds_of st w) vs ≡ fields_of (line_with w (padded 4 vs))
   good : (is_caller w ≡ true → st.callers < caller_limit) → IsGood st (line_with w (padded 4 vs))
 
@@ -124,7 +125,7 @@ setting_said : (s : Setting) (n : ℕ) → spell_field (setting_kind s) n ≡ se
 setting_said setting.Base n = refl
 setting_said s n = refl
 
-smc_said : (st : Standing) (v pa w : ℕ) → v < 2 → pa < 2 ^ 64 → w < length all_worlds → Said st word.Smc (v ∷ pa ∷ w ∷ [])
+smc_said : (st : Context) (v pa w : ℕ) → v < 2 → pa < 2 ^ 64 → w < length all_worlds → Said st word.Smc (v ∷ pa ∷ w ∷ [])
 smc_said st v pa w hv h hw =
     let name = name_of_place world_name_of all_worlds w world.Realm hw in
     elim (cases_eq v 0) [
@@ -134,7 +135,7 @@ smc_said st v pa w hv h hw =
           subst (λ (v : ℕ). Said st word.Smc (v ∷ pa ∷ w ∷ [])) e (record { fields = λ i. codes "smc" ∷ codes "undelegate" ∷ address pa ∷ name i ∷ []; good = λ r. h })
     ]
 
-said : (st : Standing) (w : Word) → ForRow (kinds_of st w) (Said st w)
+said : (st : Context) (w : Word) → ForRow (kinds_of st w) (Said st w)
 said st (word.Setting s) = λ n h. record { fields = ap (λ (f : List ℕ). word_text (word.Setting s) ∷ f ∷ []) (setting_said s n); good = λ r. h }
 said st word.Region = λ b hb z hz k hk g hg. record {
   fields = λ i. codes "region" ∷ address b ∷ address z ∷ name_of_place kind_name all_kinds k kind.Block hk i ∷ name_of_place name_of all_gpis g gpi.NoAccess hg i ∷ [];
@@ -150,7 +151,7 @@ said st word.Turn = λ c hc n hn. record { fields = refl; good = λ r. (hc.0, hn
 said st word.Round = λ n hn t ht. record { fields = refl; good = λ r. (hn.0.0, hn.0.1, ht.0.0, ht.0.1) }
 said st word.End = record { fields = refl; good = λ r. tt }
 
-said_of : (st : Standing) (w : Word) (vs : List ℕ) → Fits (kinds_of st w) vs → Said st w vs
+said_of : (st : Context) (w : Word) (vs : List ℕ) → Fits (kinds_of st w) vs → Said st w vs
 said_of st w vs fits = each_row (kinds_of st w) (Said st w) (said st w) vs fits
 
 smc_is : (v pa : ℕ) (w : World) → word_for (says.OneAsk (monitor_call v pa w)) ≡ word.Smc
@@ -162,12 +163,12 @@ word_is w vs = refl
 
 -- ---- what each line says
 
-record Spoken (st : Standing) (l : Line) : Type 0 where
+record Spoken (st : Context) (l : Line) : Type 0 where
   values : List ℕ
   fits : Fits (kinds_of st (word_for l)) values
   back : line_with (word_for l) (padded 4 values) ≡ l
 
-spoken : (st : Standing) → InLimits st → (l : Line) → InRange st l → Spoken st l
+spoken : (st : Context) → InLimits st → (l : Line) → InRange st l → Spoken st l
 spoken st limits (says.OneSetting s n) v = record { values = n ∷ []; fits = (v, tt); back = refl }
 spoken st limits (says.OneRegion r) v =
     let k = kind_placed r.kind in
@@ -200,17 +201,17 @@ spoken st limits (says.OneSlot (slot.Round n t)) v =
     record { values = n ∷ t ∷ []; fits = (((v.0.0, high), omega arith), (((v.0.2, last), omega arith), tt)); back = refl }
 spoken st limits says.End v = record { values = []; fits = tt; back = refl }
 
-fields_are : (st : Standing) (l : Line) (s : Spoken st l) → fields_of l ≡ word_text (word_for l) ∷ spell (kinds_of st (word_for l)) s.values
+fields_are : (st : Context) (l : Line) (s : Spoken st l) → fields_of l ≡ word_text (word_for l) ∷ spell (kinds_of st (word_for l)) s.values
 fields_are st l s = sym (ap fields_of s.back) ∙ sym (said_of st (word_for l) s.values s.fits).fields
 
 -- ---- lines are plain
 
-good_kinds : (st : Standing) (w : Word) → are_kinds (kinds_of st w) ≡ true
+good_kinds : (st : Context) (w : Word) → are_kinds (kinds_of st w) ≡ true
 good_kinds st (word.Setting setting.Gpt) = refl
 good_kinds st w = refl
 
 -- each field of a line that may come next is plain
-pub line_plain : (st : Standing) → InLimits st → (l : Line) → InRange st l → IsPlainLine (fields_of l)
+pub line_plain : (st : Context) → InLimits st → (l : Line) → InRange st l → IsPlainLine (fields_of l)
 line_plain st limits l v =
     let s = spoken st limits l v in
     subst (λ (fs : List (List ℕ)). IsPlainLine fs) (sym (fields_are st l s))
@@ -222,7 +223,7 @@ row_ok : (r : Result (List ℕ) RowFault) (g : List ℕ → Result Line Fault) (
 row_ok (Ok vs) g l e = (vs, refl, e)
 row_ok (Err f) g l e = absurd cc
 
-turns_ok : (st : Standing) (m l : Line) → in_turns st m ≡ Ok l → (m ≡ l) × HasRoom st m
+turns_ok : (st : Context) (m l : Line) → in_turns st m ≡ Ok l → (m ≡ l) × HasRoom st m
 turns_ok st (says.OneSlot s) l e =
     elim (chosen (nat_lt turn_limit (st.turns + turns_of st.callers s)) (Err fault.Limit) (Ok (says.OneSlot s)) (Ok l) e) [
       | inl t ↦ absurd (let wrong = t.1 in cc)
@@ -230,85 +231,85 @@ turns_ok st (says.OneSlot s) l e =
     ]
 turns_ok st m l e = (ok_same {E = Fault} m l e, tt)
 
-caller_few : (b : Bool) (st : Standing) → (b && nat_le caller_limit st.callers) ≡ false → b ≡ true → st.callers < caller_limit
+caller_few : (b : Bool) (st : Context) → (b && nat_le caller_limit st.callers) ≡ false → b ≡ true → st.callers < caller_limit
 caller_few true st f t = leb-false caller_limit st.callers f
 caller_few false st f t = absurd cc
 
-record Spelt (st : Standing) (w : Word) (fields : List (List ℕ)) (l : Line) : Type 0 where
+record Spelled (st : Context) (w : Word) (fields : List (List ℕ)) (l : Line) : Type 0 where
   spelled : word_text w ∷ fields ≡ fields_of l
   word : word_for l ≡ w
   values : InRange st l
 
-word_spelt : (st : Standing) (w : Word) (fields : List (List ℕ)) (l : Line) → read_word st w fields ≡ Ok l → Spelt st w fields l
+word_spelled : (st : Context) (w : Word) (fields : List (List ℕ)) (l : Line) → read_word st w fields ≡ Ok l → Spelled st w fields l
 unfolding read_word
-word_spelt st w fields l e =
+word_spelled st w fields l e =
     elim (chosen (is_caller w && nat_le caller_limit st.callers) (Err fault.Limit) (read_values st w fields) (Ok l) e) [
       | inl t ↦ absurd (let wrong = t.1 in cc)
       | inr f ↦
           let r = row_ok (read_row (kinds_of st w) fields) (λ vs. in_turns st (line_with w vs)) l f.1 in
-          let row = row_spelt (kinds_of st w) fields r.0 r.1 in
+          let row = row_spelled (kinds_of st w) fields r.0 r.1 in
           let s = said_of st w r.0 row.1 in
           let t = turns_ok st (line_with w (padded 4 r.0)) l r.2 in
-          subst (λ (l : Line). Spelt st w fields l) t.0 (record {
+          subst (λ (l : Line). Spelled st w fields l) t.0 (record {
             spelled = ap (λ (fs : List (List ℕ)). word_text w ∷ fs) row.0 ∙ s.fields;
             word = word_is w (padded 4 r.0);
             values = in_range st (line_with w (padded 4 r.0)) (s.good (caller_few (is_caller w) st f.0)) t.1;
           })
     ]
 
-known_spelt : (st : Standing) (first : List ℕ) (o : Option Word) (fields : List (List ℕ)) (l : Line) → word_of first ≡ o → read_known st o fields ≡ Ok l → (first ∷ fields ≡ fields_of l) × Next st l
-known_spelt st first None fields l o e = absurd cc
-known_spelt st first (Some w) fields l o e =
-    elim (chosen (may_stand st.place w) (read_word st w fields) (Err fault.Word) (Ok l) e) [
+known_spelled : (st : Context) (first : List ℕ) (o : Option Word) (fields : List (List ℕ)) (l : Line) → word_of first ≡ o → read_known st o fields ≡ Ok l → (first ∷ fields ≡ fields_of l) × Next st l
+known_spelled st first None fields l o e = absurd cc
+known_spelled st first (Some w) fields l o e =
+    elim (chosen (may_come st.place w) (read_word st w fields) (Err fault.Word) (Ok l) e) [
       | inr f ↦ absurd (let wrong = f.1 in cc)
       | inl t ↦
-          let s = word_spelt st w fields l t.1 in
-          (ap (λ (x : List ℕ). x ∷ fields) (word_found first w o) ∙ s.spelled, record { stands = ap (may_stand st.place) s.word ∙ t.0; values = s.values })
+          let s = word_spelled st w fields l t.1 in
+          (ap (λ (x : List ℕ). x ∷ fields) (word_found first w o) ∙ s.spelled, record { comes = ap (may_come st.place) s.word ∙ t.0; values = s.values })
     ]
 
-fields_spelt : (st : Standing) (fields : List (List ℕ)) (l : Line) → read_fields st fields ≡ Ok l → (fields ≡ fields_of l) × Next st l
-fields_spelt st [] l e = absurd cc
-fields_spelt st (first ∷ fields) l e = known_spelt st first (word_of first) fields l refl e
+fields_spelled : (st : Context) (fields : List (List ℕ)) (l : Line) → read_fields st fields ≡ Ok l → (fields ≡ fields_of l) × Next st l
+fields_spelled st [] l e = absurd cc
+fields_spelled st (first ∷ fields) l e = known_spelled st first (word_of first) fields l refl e
 
 -- a line that is read is spelled so, and may come here
-pub line_spelt : (st : Standing) (fields : List (List ℕ)) (l : Line) → read_line st fields ≡ Ok l → (fields ≡ fields_of l) × Next st l
+pub line_spelled : (st : Context) (fields : List (List ℕ)) (l : Line) → read_line st fields ≡ Ok l → (fields ≡ fields_of l) × Next st l
 unfolding read_line
-line_spelt st fields l e =
+line_spelled st fields l e =
     elim (chosen (is_ended st.place) (Err fault.After) (read_fields st fields) (Ok l) e) [
       | inl t ↦ absurd (let wrong = t.1 in cc)
-      | inr f ↦ fields_spelt st fields l f.1
+      | inr f ↦ fields_spelled st fields l f.1
     ]
 
 -- ---- a line that may come next is read
 
-callers_room : (st : Standing) (l : Line) → InRange st l → (is_caller (word_for l) && nat_le caller_limit st.callers) ≡ false
+callers_room : (st : Context) (l : Line) → InRange st l → (is_caller (word_for l) && nat_le caller_limit st.callers) ≡ false
 callers_room st says.NewAgent v = lt-leb caller_limit st.callers v
 callers_room st says.NewCpu v = lt-leb caller_limit st.callers v
 callers_room st (says.OneAsk (ask.Delegate pa s)) v = refl
 callers_room st (says.OneSlot (slot.Turn c n)) v = refl
 callers_room st l v = refl
 
-turns_again : (st : Standing) (l : Line) → InRange st l → in_turns st l ≡ Ok l
+turns_again : (st : Context) (l : Line) → InRange st l → in_turns st l ≡ Ok l
 turns_again st (says.OneSlot s) v = rw (le-ltb turn_limit (st.turns + turns_of st.callers s) v.1) refl
 turns_again st l v = refl
 
-word_again : (st : Standing) (l : Line) (s : Spoken st l) → InRange st l → read_word st (word_for l) (spell (kinds_of st (word_for l)) s.values) ≡ Ok l
+word_again : (st : Context) (l : Line) (s : Spoken st l) → InRange st l → read_word st (word_for l) (spell (kinds_of st (word_for l)) s.values) ≡ Ok l
 unfolding read_word
 word_again st l s v =
     rw (callers_room st l v, row_again (kinds_of st (word_for l)) s.values (good_kinds st (word_for l)) s.fits) (ap (in_turns st) s.back ∙ turns_again st l v)
 
-not_ended : (p : Place) (w : Word) → may_stand p w ≡ true → is_ended p ≡ false
-not_ended stands.Ended w e = absurd cc
+not_ended : (p : Place) (w : Word) → may_come p w ≡ true → is_ended p ≡ false
+not_ended places.Ended w e = absurd cc
 not_ended p w e = refl
 
-read_again : (st : Standing) (w : Word) (fields : List (List ℕ)) (l : Line) → may_stand st.place w ≡ true → read_word st w fields ≡ Ok l → read_line st (word_text w ∷ fields) ≡ Ok l
+read_again : (st : Context) (w : Word) (fields : List (List ℕ)) (l : Line) → may_come st.place w ≡ true → read_word st w fields ≡ Ok l → read_line st (word_text w ∷ fields) ≡ Ok l
 unfolding read_line
 read_again st w fields l e read = rw (not_ended st.place w e, word_names w, e) read
 
-pub line_again : (st : Standing) → InLimits st → (l : Line) → Next st l → read_line st (fields_of l) ≡ Ok l
+pub line_again : (st : Context) → InLimits st → (l : Line) → Next st l → read_line st (fields_of l) ≡ Ok l
 line_again st limits l nx =
     let s = spoken st limits l nx.values in
-    ap (read_line st) (fields_are st l s) ∙ read_again st (word_for l) (spell (kinds_of st (word_for l)) s.values) l nx.stands (word_again st l s nx.values)
+    ap (read_line st) (fields_are st l s) ∙ read_again st (word_for l) (spell (kinds_of st (word_for l)) s.values) l nx.comes (word_again st l s nx.values)
 
 -- ---- faults
 
@@ -316,11 +317,11 @@ number_again : (n : ℕ) → n < 2 ^ 64 → number_of (count n) ≡ n
 number_again n lt = ap (λ (o : Option ℕ). unwrap_or o 0) (count_again n lt)
 
 -- the turns that a line takes
-abbrev turns_said : Standing → Line → ℕ
+abbrev turns_said : Context → Line → ℕ
 turns_said st (says.OneSlot s) = turns_of st.callers s
 turns_said st l = 0
 
-turns_are : (st : Standing) (l : Line) → IsGood st l → line_turns st (word_for l) (drop 1 (fields_of l)) ≡ turns_said st l
+turns_are : (st : Context) (l : Line) → IsGood st l → line_turns st (word_for l) (drop 1 (fields_of l)) ≡ turns_said st l
 turns_are st (says.OneSlot (slot.Turn c n)) good = number_again n (let high = good.2 in omega arith)
 turns_are st (says.OneSlot (slot.Round n t)) good =
     let high = good.1 in
@@ -334,67 +335,67 @@ turns_are st l good = refl
 abbrev turns_fault : ℕ → Option Fault
 turns_fault n = cond (nat_lt turn_limit n) (Some fault.Limit) None
 
-in_turns_told : (st : Standing) → InLimits st → (l : Line) → fault_in (in_turns st l) ≡ turns_fault (st.turns + turns_said st l)
-in_turns_told st limits (says.OneSlot s) = elim (cases_Bool (nat_lt turn_limit (st.turns + turns_of st.callers s))) [ inl t ↦ rw t refl | inr f ↦ rw f refl ]
-in_turns_told st limits l = let few = limits.turns in rw (le-ltb turn_limit (st.turns + 0) (omega arith)) refl
+turns_reported : (st : Context) → InLimits st → (l : Line) → result_err (in_turns st l) ≡ turns_fault (st.turns + turns_said st l)
+turns_reported st limits (says.OneSlot s) = elim (cases_Bool (nat_lt turn_limit (st.turns + turns_of st.callers s))) [ inl t ↦ rw t refl | inr f ↦ rw f refl ]
+turns_reported st limits l = let few = limits.turns in rw (le-ltb turn_limit (st.turns + 0) (omega arith)) refl
 
-values_told : (st : Standing) → InLimits st → (w : Word) (fields : List (List ℕ)) → (is_caller w && nat_le caller_limit st.callers) ≡ false → (r : Result (List ℕ) RowFault) → read_row (kinds_of st w) fields ≡ r
-    → fault_in (read_values st w fields) ≡ option_or (option_map fault_of (row_fault (kinds_of st w) fields)) (turns_fault (st.turns + line_turns st w fields))
-values_told st limits w fields few (Err f) e = rw (e, sym (row_told (kinds_of st w) fields) ∙ ap fault_in e) refl
-values_told st limits w fields few (Ok vs) e =
-    let row = row_spelt (kinds_of st w) fields vs e in
+values_reported : (st : Context) → InLimits st → (w : Word) (fields : List (List ℕ)) → (is_caller w && nat_le caller_limit st.callers) ≡ false → (r : Result (List ℕ) RowFault) → read_row (kinds_of st w) fields ≡ r
+    → result_err (read_values st w fields) ≡ option_or (option_map fault_of (row_fault (kinds_of st w) fields)) (turns_fault (st.turns + line_turns st w fields))
+values_reported st limits w fields few (Err f) e = rw (e, sym (row_reported (kinds_of st w) fields) ∙ ap result_err e) refl
+values_reported st limits w fields few (Ok vs) e =
+    let row = row_spelled (kinds_of st w) fields vs e in
     let s = said_of st w vs row.1 in
     let l = line_with w (padded 4 vs) in
     let rest : drop 1 (fields_of l) ≡ fields = ap (drop 1) (sym (ap (λ (fs : List (List ℕ)). word_text w ∷ fs) row.0 ∙ s.fields)) in
-    let told : fault_in (in_turns st l) ≡ turns_fault (st.turns + line_turns st w fields) =
-    in_turns_told st limits l
+    let reported : result_err (in_turns st l) ≡ turns_fault (st.turns + line_turns st w fields) =
+    turns_reported st limits l
     ∙ ap (λ (k : ℕ). turns_fault (st.turns + k)) (sym (turns_are st l (s.good (caller_few (is_caller w) st few))))
     ∙ (λ i. turns_fault (st.turns + line_turns st (word_is w (padded 4 vs) i) (rest i))) in
-    rw (e, sym (row_told (kinds_of st w) fields) ∙ ap fault_in e) told
+    rw (e, sym (row_reported (kinds_of st w) fields) ∙ ap result_err e) reported
 
-word_told : (st : Standing) → InLimits st → (w : Word) (fields : List (List ℕ)) → fault_in (read_word st w fields)
+word_reported : (st : Context) → InLimits st → (w : Word) (fields : List (List ℕ)) → result_err (read_word st w fields)
     ≡ cond (is_caller w && nat_le caller_limit st.callers) (Some fault.Limit) (option_or (option_map fault_of (row_fault (kinds_of st w) fields)) (turns_fault (st.turns + line_turns st w fields)))
 unfolding read_word
-word_told st limits w fields =
+word_reported st limits w fields =
     elim (cases_Bool (is_caller w && nat_le caller_limit st.callers)) [
       | inl t ↦ rw t refl
-      | inr f ↦ rw f (values_told st limits w fields f (read_row (kinds_of st w) fields) refl)
+      | inr f ↦ rw f (values_reported st limits w fields f (read_row (kinds_of st w) fields) refl)
     ]
 
-known_told : (st : Standing) → InLimits st → (o : Option Word) (fields : List (List ℕ)) → fault_in (read_known st o fields) ≡ known_word_fault st o fields
-known_told st limits None fields = refl
-known_told st limits (Some w) fields =
-    elim (cases_Bool (may_stand st.place w)) [
-      | inl t ↦ rw t (word_told st limits w fields)
+known_reported : (st : Context) → InLimits st → (o : Option Word) (fields : List (List ℕ)) → result_err (read_known st o fields) ≡ known_word_fault st o fields
+known_reported st limits None fields = refl
+known_reported st limits (Some w) fields =
+    elim (cases_Bool (may_come st.place w)) [
+      | inl t ↦ rw t (word_reported st limits w fields)
       | inr f ↦ rw f refl
     ]
 
 -- the fault of a line is the one that reading meets
-pub line_told : (st : Standing) → InLimits st → (fields : List (List ℕ)) → is_ended st.place ≡ false → fault_in (read_line st fields) ≡ line_fault st fields
+pub line_reported : (st : Context) → InLimits st → (fields : List (List ℕ)) → is_ended st.place ≡ false → result_err (read_line st fields) ≡ line_fault st fields
 unfolding read_line line_fault
-line_told st limits [] e = rw e refl
-line_told st limits (first ∷ fields) e = rw e (known_told st limits (word_of first) fields)
+line_reported st limits [] e = rw e refl
+line_reported st limits (first ∷ fields) e = rw e (known_reported st limits (word_of first) fields)
 
--- ---- where the line after it stands
+-- ---- the context after a line
 
 add_zero : (n : ℕ) → n + 0 ≡ n
 add_zero n = omega arith
 
-pub after_again : (st : Standing) → InLimits st → (l : Line) → Next st l → after_line st (fields_of l) ≡ after st l
+pub after_again : (st : Context) → InLimits st → (l : Line) → Next st l → after_line st (fields_of l) ≡ after st l
 unfolding after_line word_of
 after_again st limits (says.OneSetting setting.Space n) nx =
     let n_is = number_again n nx.values.1 in
     let turns = add_zero st.turns in
-    λ i. record { place = stands.Head 2; gigabytes = n_is i; callers = st.callers; turns = turns i }
+    λ i. record { place = places.Head 2; gigabytes = n_is i; callers = st.callers; turns = turns i }
 after_again st limits (says.OneSlot (slot.Turn c n)) nx =
     let turns = turns_are st (says.OneSlot (slot.Turn c n)) nx.values.0 in
-    λ i. record { place = stands.Schedule; gigabytes = st.gigabytes; callers = st.callers; turns = st.turns + turns i }
+    λ i. record { place = places.Schedule; gigabytes = st.gigabytes; callers = st.callers; turns = st.turns + turns i }
 after_again st limits (says.OneSlot (slot.Round n t)) nx =
     let turns = turns_are st (says.OneSlot (slot.Round n t)) nx.values.0 in
-    λ i. record { place = stands.Schedule; gigabytes = st.gigabytes; callers = st.callers; turns = st.turns + turns i }
+    λ i. record { place = places.Schedule; gigabytes = st.gigabytes; callers = st.callers; turns = st.turns + turns i }
 after_again st limits (says.OneAsk (ask.Delegate pa s)) nx =
     let turns = add_zero st.turns in
-    λ i. record { place = stands.InAgent; gigabytes = st.gigabytes; callers = st.callers; turns = turns i }
+    λ i. record { place = places.InAgent; gigabytes = st.gigabytes; callers = st.callers; turns = turns i }
 after_again st limits l nx =
     let turns = add_zero st.turns in
     λ i. record { place = place_after l; gigabytes = gigabytes_after st l; callers = callers_after st l; turns = turns i }

@@ -1,4 +1,4 @@
--- The first bad line of a text and its fault, over the list of its lines: what may stand where, and
+-- The first bad line of a text and its fault, over the list of its lines: which line may come where, and
 -- what the fields of a line have to be.
 use Rattle.std.specs.Prelude.{◌≡◌, ℕ, ◌+◌, ◌*◌, Bool, true, false, ◌&&◌, not, List, [], ◌∷◌, Option, Some, None, unwrap_or, ◌==◌, nat_lt, nat_le, codes, if◌then◌else◌}
 use Rattle.std.specs.List.{find}
@@ -14,9 +14,9 @@ use Rattle.scenario_text.specs.declared.scenario.Fault.{Fault}
 use Rattle.scenario_text.specs.declared.scenario.Fault.TheVariants as fault
 use Rattle.scenario_text.specs.declared.scenario.TextError.{TextError}
 use Rattle.scenario_text.specs.declared.scenario.TextError.TheVariants as error
-use Rattle.scenario_text.specs.declared.standing.Place.{Place}
-use Rattle.scenario_text.specs.declared.standing.Place.TheVariants.{Head, Regions, InAgent, InCpu, Schedule, Ended}
-use Rattle.scenario_text.specs.declared.standing.Standing.{Standing}
+use Rattle.scenario_text.specs.declared.context.Place.{Place}
+use Rattle.scenario_text.specs.declared.context.Place.TheVariants.{Head, Regions, InAgent, InCpu, Schedule, Ended}
+use Rattle.scenario_text.specs.declared.context.Context.{Context}
 use Rattle.scenario_text.specs.declared.word.Setting.{Setting}
 use Rattle.scenario_text.specs.declared.word.Setting.TheVariants as setting
 use Rattle.scenario_text.specs.declared.word.Word.{Word}
@@ -49,10 +49,10 @@ all_words =
 unfoldable pub word_of : List ℕ → Option Word
 word_of field = find (λ w. bytes_eq field (word_text w)) all_words
 
--- ---- where a line stands
+-- ---- the place of a line
 
 -- the first line
-abbrev pub start : Standing
+abbrev pub start : Context
 start = record { place = Head 0; gigabytes = 0; callers = 0; turns = 0 }
 
 -- the place of a setting in the head
@@ -75,22 +75,22 @@ may_follow word.Round = true
 may_follow word.End = true
 may_follow w = false
 
-abbrev pub may_stand : Place → Word → Bool
-may_stand (Head k) (word.Setting s) = head_index s == k
-may_stand (Head k) w = false
-may_stand Regions word.Region = true
-may_stand Regions w = may_follow w
-may_stand InAgent word.Delegate = true
-may_stand InAgent word.Undelegate = true
-may_stand InAgent word.Smc = true
-may_stand InAgent w = may_follow w
-may_stand InCpu word.Look = true
-may_stand InCpu w = may_follow w
-may_stand Schedule word.Turn = true
-may_stand Schedule word.Round = true
-may_stand Schedule word.End = true
-may_stand Schedule w = false
-may_stand Ended w = false
+abbrev pub may_come : Place → Word → Bool
+may_come (Head k) (word.Setting s) = head_index s == k
+may_come (Head k) w = false
+may_come Regions word.Region = true
+may_come Regions w = may_follow w
+may_come InAgent word.Delegate = true
+may_come InAgent word.Undelegate = true
+may_come InAgent word.Smc = true
+may_come InAgent w = may_follow w
+may_come InCpu word.Look = true
+may_come InCpu w = may_follow w
+may_come Schedule word.Turn = true
+may_come Schedule word.Round = true
+may_come Schedule word.End = true
+may_come Schedule w = false
+may_come Ended w = false
 
 -- ---- what the fields after the first one have to be
 
@@ -107,7 +107,7 @@ setting_kind setting.Ring = Count (Between 1 64)
 setting_kind setting.Tables = Count (Between 0 16)
 setting_kind setting.Base = Address Any
 
-abbrev pub kinds_of : Standing → Word → List FieldKind
+abbrev pub kinds_of : Context → Word → List FieldKind
 kinds_of st (word.Setting s) = setting_kind s ∷ []
 kinds_of st word.Region =
     Address Any ∷ Address Any ∷ Name (codes "block" ∷ codes "granule" ∷ [])
@@ -128,7 +128,7 @@ abbrev pub number_of : List ℕ → ℕ
 number_of field = unwrap_or (count_in field) 0
 
 -- the turns of a line of the schedule
-abbrev pub line_turns : Standing → Word → List (List ℕ) → ℕ
+abbrev pub line_turns : Context → Word → List (List ℕ) → ℕ
 line_turns st word.Turn (caller ∷ turns ∷ []) = number_of turns
 line_turns st word.Round (turns ∷ times ∷ []) = number_of turns * number_of times * st.callers
 line_turns st w fields = 0
@@ -138,29 +138,29 @@ is_caller word.Agent = true
 is_caller word.Cpu = true
 is_caller w = false
 
--- ---- the fault of a line, in the order in which faults are told
+-- ---- the fault of a line, in the order in which faults are reported
 
 abbrev pub fault_of : RowFault → Fault
 fault_of row_fails.Fields = fault.Fields
 fault_of row_fails.Number = fault.Number
 fault_of row_fails.Value = fault.Value
 
-abbrev pub word_fault : Standing → Word → List (List ℕ) → Option Fault
+abbrev pub word_fault : Context → Word → List (List ℕ) → Option Fault
 word_fault st w fields =
-    if not (may_stand st.place w) then Some fault.Word else
+    if not (may_come st.place w) then Some fault.Word else
     if is_caller w && nat_le caller_limit st.callers then Some fault.Limit else
     option_or (option_map fault_of (row_fault (kinds_of st w) fields)) (
     if nat_lt turn_limit (st.turns + line_turns st w fields) then Some fault.Limit else None)
 
-abbrev pub known_word_fault : Standing → Option Word → List (List ℕ) → Option Fault
+abbrev pub known_word_fault : Context → Option Word → List (List ℕ) → Option Fault
 known_word_fault st None fields = Some fault.Word
 known_word_fault st (Some w) fields = word_fault st w fields
 
-unfoldable pub line_fault : Standing → List (List ℕ) → Option Fault
+unfoldable pub line_fault : Context → List (List ℕ) → Option Fault
 line_fault st [] = Some fault.Word
 line_fault st (first ∷ fields) = known_word_fault st (word_of first) fields
 
--- ---- where the next line stands
+-- ---- the context of the next line
 
 -- line k of the head; after the last one come the regions
 abbrev pub head_place : ℕ → Place
@@ -176,11 +176,11 @@ next_place word.Round = Schedule
 next_place word.End = Ended
 next_place w = InAgent
 
-abbrev pub space_after : Standing → Word → List (List ℕ) → ℕ
+abbrev pub space_after : Context → Word → List (List ℕ) → ℕ
 space_after st (word.Setting setting.Space) (gigabytes ∷ []) = number_of gigabytes
 space_after st w fields = st.gigabytes
 
-abbrev pub after_word : Standing → Option Word → List (List ℕ) → Standing
+abbrev pub after_word : Context → Option Word → List (List ℕ) → Context
 after_word st None fields = st
 after_word st (Some w) fields = record {
   place = next_place w;
@@ -189,7 +189,7 @@ after_word st (Some w) fields = record {
   turns = st.turns + line_turns st w fields;
 }
 
-unfoldable pub after_line : Standing → List (List ℕ) → Standing
+unfoldable pub after_line : Context → List (List ℕ) → Context
 after_line st [] = st
 after_line st (first ∷ fields) = after_word st (word_of first) fields
 
@@ -211,7 +211,7 @@ next_bad n (Some f) later = Some (n, f)
 next_bad n None later = later
 
 -- the pieces between line feeds, of which the last is that rest; the first piece is line n
-unfoldable pub first_bad_from : ℕ → Standing → List (List ℕ) → Option (ℕ × Fault)
+unfoldable pub first_bad_from : ℕ → Context → List (List ℕ) → Option (ℕ × Fault)
 first_bad_from n st [] = None
 first_bad_from n st (rest ∷ []) = rest_fault st.place n rest
 first_bad_from n st (line ∷ next ∷ more) =

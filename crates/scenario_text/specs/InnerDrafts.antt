@@ -82,9 +82,9 @@ abbrev pub scenario_of : DraftData → Scenario
 scenario_of d = record { setup = d.setup; regions = d.regions; scripts = d.scripts; schedule = d.schedule }
 
 -- the scenario of a draft and the lines that are read after it
-abbrev pub told_with : DraftData → Result (List Line) (ℕ × Fault) → Result Scenario (ℕ × Fault)
-told_with d (Ok ls) = Ok (scenario_of (taken_all d ls))
-told_with d (Err bad) = Err bad
+abbrev pub scenario_with : DraftData → Result (List Line) (ℕ × Fault) → Result Scenario (ℕ × Fault)
+scenario_with d (Ok ls) = Ok (scenario_of (taken_all d ls))
+scenario_with d (Err bad) = Err bad
 
 -- ---- drafts in memory
 

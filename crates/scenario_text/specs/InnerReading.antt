@@ -24,14 +24,14 @@ use Rattle.scenario_text.specs.declared.scenario.Fault.{Fault}
 use Rattle.scenario_text.specs.declared.scenario.Fault.TheVariants as fault
 use Rattle.scenario_text.specs.declared.scenario.TextError.{TextError}
 use Rattle.scenario_text.specs.declared.scenario.TextError.TheVariants as error
-use Rattle.scenario_text.specs.declared.standing.Place.{Place}
-use Rattle.scenario_text.specs.declared.standing.Place.TheVariants as stands
-use Rattle.scenario_text.specs.declared.standing.Standing.{Standing}
+use Rattle.scenario_text.specs.declared.context.Place.{Place}
+use Rattle.scenario_text.specs.declared.context.Place.TheVariants as places
+use Rattle.scenario_text.specs.declared.context.Context.{Context}
 use Rattle.scenario_text.specs.declared.word.Setting.TheVariants as setting
 use Rattle.scenario_text.specs.declared.word.Word.{Word}
 use Rattle.scenario_text.specs.declared.word.Word.TheVariants as word
 use Rattle.scenario_text.specs.Spelling.{caller_limit, turn_limit, turns_of, IsRegion, IsAsk, IsSlot}
-use Rattle.scenario_text.specs.Faults.{word_of, may_stand, is_caller, setting_kind, kinds_of, fault_of, head_index, head_place, is_ended, rest_fault, start}
+use Rattle.scenario_text.specs.Faults.{word_of, may_come, is_caller, setting_kind, kinds_of, fault_of, head_index, head_place, is_ended, rest_fault, start}
 
 -- ---- values of names, in the order of the names
 
@@ -75,7 +75,7 @@ line_with word.Round vs = says.OneSlot (slot.Round (get_or vs 0 0) (get_or vs 1 
 line_with word.End vs = says.End
 
 -- a line, if its turns have room
-abbrev pub in_turns : Standing → Line → Result Line Fault
+abbrev pub in_turns : Context → Line → Result Line Fault
 in_turns st (says.OneSlot s) = if nat_lt turn_limit (st.turns + turns_of st.callers s) then Err fault.Limit else Ok (says.OneSlot s)
 in_turns st l = Ok l
 
@@ -83,27 +83,27 @@ abbrev pub or_fault : {A : Type 0} → Result A RowFault → Result A Fault
 or_fault (Ok x) = Ok x
 or_fault (Err f) = Err (fault_of f)
 
-abbrev pub read_values : Standing → Word → List (List ℕ) → Result Line Fault
+abbrev pub read_values : Context → Word → List (List ℕ) → Result Line Fault
 read_values st w fields = or_fault (ok_padded (read_row (kinds_of st w) fields)) >>= λ vs. in_turns st (line_with w vs)
 
 -- an agent or a processor, if one more caller has room
-unfoldable pub read_word : Standing → Word → List (List ℕ) → Result Line Fault
+unfoldable pub read_word : Context → Word → List (List ℕ) → Result Line Fault
 read_word st w fields = if is_caller w && nat_le caller_limit st.callers then Err fault.Limit else read_values st w fields
 
-abbrev pub read_known : Standing → Option Word → List (List ℕ) → Result Line Fault
+abbrev pub read_known : Context → Option Word → List (List ℕ) → Result Line Fault
 read_known st None fields = Err fault.Word
-read_known st (Some w) fields = if may_stand st.place w then read_word st w fields else Err fault.Word
+read_known st (Some w) fields = if may_come st.place w then read_word st w fields else Err fault.Word
 
-abbrev pub read_fields : Standing → List (List ℕ) → Result Line Fault
+abbrev pub read_fields : Context → List (List ℕ) → Result Line Fault
 read_fields st [] = Err fault.Word
 read_fields st (first ∷ fields) = read_known st (word_of first) fields
 
-unfoldable pub read_line : Standing → List (List ℕ) → Result Line Fault
+unfoldable pub read_line : Context → List (List ℕ) → Result Line Fault
 read_line st fields = if is_ended st.place then Err fault.After else read_fields st fields
 
--- ---- what may stand where, and what the next line is held against
+-- ---- which line may come, and what the next one is held against
 
-pub record InLimits (st : Standing) : Type 0 where
+pub record InLimits (st : Context) : Type 0 where
   pub gigabytes : st.gigabytes ≤ 64
   pub callers : st.callers ≤ caller_limit
   pub turns : st.turns ≤ turn_limit
@@ -124,7 +124,7 @@ word_for (says.OneSlot (slot.Round n t)) = word.Round
 word_for says.End = word.End
 
 -- the values that a line may have
-abbrev pub InRange : Standing → Line → Type 0
+abbrev pub InRange : Context → Line → Type 0
 InRange st (says.OneSetting s n) = FieldFits (setting_kind s) n
 InRange st (says.OneRegion r) = IsRegion r
 InRange st says.NewAgent = st.callers < caller_limit
@@ -134,36 +134,36 @@ InRange st (says.OneLook l) = (l.pa < st.gigabytes * region_bytes) × (l.pa < 2 
 InRange st (says.OneSlot s) = IsSlot st.callers s × (st.turns + turns_of st.callers s ≤ turn_limit)
 InRange st says.End = Unit {0}
 
--- a line that may stand next
-pub record Next (st : Standing) (l : Line) : Type 0 where
-  pub stands : may_stand st.place (word_for l) ≡ true
+-- a line that may come next
+pub record Next (st : Context) (l : Line) : Type 0 where
+  pub comes : may_come st.place (word_for l) ≡ true
   pub values : InRange st l
 
 abbrev pub place_after : Line → Place
 place_after (says.OneSetting s n) = head_place (head_index s + 1)
-place_after (says.OneRegion r) = stands.Regions
-place_after says.NewAgent = stands.InAgent
-place_after says.NewCpu = stands.InCpu
-place_after (says.OneAsk a) = stands.InAgent
-place_after (says.OneLook l) = stands.InCpu
-place_after (says.OneSlot s) = stands.Schedule
-place_after says.End = stands.Ended
+place_after (says.OneRegion r) = places.Regions
+place_after says.NewAgent = places.InAgent
+place_after says.NewCpu = places.InCpu
+place_after (says.OneAsk a) = places.InAgent
+place_after (says.OneLook l) = places.InCpu
+place_after (says.OneSlot s) = places.Schedule
+place_after says.End = places.Ended
 
-abbrev pub gigabytes_after : Standing → Line → ℕ
+abbrev pub gigabytes_after : Context → Line → ℕ
 gigabytes_after st (says.OneSetting setting.Space n) = n
 gigabytes_after st l = st.gigabytes
 
-abbrev pub callers_after : Standing → Line → ℕ
+abbrev pub callers_after : Context → Line → ℕ
 callers_after st says.NewAgent = st.callers + 1
 callers_after st says.NewCpu = st.callers + 1
 callers_after st l = st.callers
 
-abbrev pub turns_after : Standing → Line → ℕ
+abbrev pub turns_after : Context → Line → ℕ
 turns_after st (says.OneSlot s) = st.turns + turns_of st.callers s
 turns_after st l = st.turns
 
--- where the line after this one stands
-abbrev pub after : Standing → Line → Standing
+-- the context of the line after this one
+abbrev pub after : Context → Line → Context
 after st l = record {
   place = place_after l;
   gigabytes = gigabytes_after st l;
@@ -183,7 +183,7 @@ unless None = Ok []
 unless (Some bad) = Err bad
 
 -- the pieces between line feeds; the first is line n
-unfoldable pub read_from : ℕ → Standing → List (List ℕ) → Result (List Line) (ℕ × Fault)
+unfoldable pub read_from : ℕ → Context → List (List ℕ) → Result (List Line) (ℕ × Fault)
 read_from n st [] = Err (n, fault.End)
 read_from n st (rest ∷ []) = unless (rest_fault st.place n rest)
 read_from n st (line ∷ next ∷ more) = do

@@ -2,8 +2,8 @@ ghost use Rattle.std.specs.Prelude.{◌≡◌, ◌≤◌, IfOk};
 ghost use Rattle.line_text.specs.InnerRows.{kind_in, fields_left, FitsPrefix, ok_padded, read_row};
 ghost use Rattle.scenario_text.specs.Faults.{setting_kind, kinds_of};
 
+use crate::context::Context;
 use crate::forming::TURN_LIMIT;
-use crate::standing::Standing;
 use crate::word::{Setting, Word};
 use gpt_descriptors::{GEN_LAST, REGION_BYTES};
 use line_text::{FieldKind, Range, RowFault, row};
@@ -41,10 +41,10 @@ fn setting_kind(setting: Setting) -> FieldKind
 }
 
 /// The values of the fields after a word, which are of these kinds.
-pub fn values_of(standing: Standing, word: Word, rest: Option<&[u8]>) -> Result<[u64; 4], RowFault>
-    requires { standing.gigabytes ≤ 64 }
-    ensures read { result ≡ ok_padded (read_row (kinds_of standing word) (fields_left rest.entry)) }
-    ensures fits { IfOk result (λ values. FitsPrefix (kinds_of standing word) values) }
+pub fn values_of(context: Context, word: Word, rest: Option<&[u8]>) -> Result<[u64; 4], RowFault>
+    requires { context.gigabytes ≤ 64 }
+    ensures read { result ≡ ok_padded (read_row (kinds_of context word) (fields_left rest.entry)) }
+    ensures fits { IfOk result (λ values. FitsPrefix (kinds_of context word) values) }
 {
     match word {
         Word::Setting(setting) => row(&[setting_kind(setting)], rest),
@@ -52,11 +52,11 @@ pub fn values_of(standing: Standing, word: Word, rest: Option<&[u8]>) -> Result<
         Word::Delegate | Word::Undelegate => row(&[ADDRESS, SOURCE], rest),
         Word::Smc => row(&[VERB, ADDRESS, WORLD], rest),
         Word::Look => {
-            let space = Range::Below(standing.gigabytes * REGION_BYTES);
+            let space = Range::Below(context.gigabytes * REGION_BYTES);
             row(&[FieldKind::Address(space), SPACE], rest)
         }
         Word::Turn => {
-            let callers = Range::Below(standing.callers);
+            let callers = Range::Below(context.callers);
             row(&[FieldKind::Count(callers), TURNS], rest)
         }
         Word::Round => row(&[TURNS, TURNS], rest),

@@ -2,6 +2,7 @@
 //! processors with their calls, and a schedule of their turns. Each scenario has one text.
 #![tactic(auto)]
 
+mod context;
 mod draft;
 mod forming;
 mod kinds;
@@ -11,7 +12,6 @@ mod parsing;
 mod printing;
 mod reading;
 mod scenario;
-mod standing;
 mod word;
 
 pub use forming::well_formed;

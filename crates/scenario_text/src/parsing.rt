@@ -4,12 +4,12 @@ ghost use Rattle.scenario_text.specs.declared.scenario.TextError.TheVariants.{Me
 ghost use Rattle.scenario_text.specs.Spelling.{WellFormed, text_of};
 ghost use Rattle.scenario_text.specs.Faults.{first_bad, rest_fault, IsFault};
 ghost use Rattle.scenario_text.specs.InnerReading.{Reads, unless, read_all};
-ghost use Rattle.scenario_text.specs.InnerDrafts.{nothing_read, told_with};
+ghost use Rattle.scenario_text.specs.InnerDrafts.{nothing_read, scenario_with};
 
+use crate::context::{Context, Place};
 use crate::draft::Draft;
 use crate::reading::line_of;
 use crate::scenario::{Fault, Scenario, TextError};
-use crate::standing::{Place, Standing};
 use line_text::next_line;
 use std::alloc::Global;
 
@@ -26,23 +26,23 @@ fn end(place: Place, number: u64, rest: &[u8]) -> Result<(), TextError>
 
 /// The scenario of a text, line by line.
 fn scenario(alloc: Global, bytes: &[u8]) -> Result<Scenario, TextError>
-    ensures { Reads (λ s. s) result (told_with nothing_read (read_all bytes.now)) }
+    ensures { Reads (λ s. s) result (scenario_with nothing_read (read_all bytes.now)) }
 {
     let mut draft = Draft::new(alloc);
-    let mut standing = Standing::START;
+    let mut context = Context::START;
     let mut number = 1;
     let mut rest = bytes;
     while let Some((line, more)) = next_line(rest) {
-        let said = match line_of(standing, line) {
+        let said = match line_of(context, line) {
             Ok(said) => said,
             Err(fault) => return Err(TextError::Line(number, fault)),
         };
         draft.take(alloc, said)?;
-        standing = standing.after(said);
+        context = context.after(said);
         number += 1;
         rest = more;
     }
-    end(standing.place, number, rest)?;
+    end(context.place, number, rest)?;
     Ok(draft.finish())
 }
 

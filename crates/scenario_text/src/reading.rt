@@ -5,11 +5,11 @@ ghost use Rattle.scenario_text.specs.Faults.{is_caller, kinds_of};
 ghost use Rattle.scenario_text.specs.Spelling.{IsSlot};
 ghost use Rattle.scenario_text.specs.InnerReading.{InLimits, in_turns, line_with, monitor_call, read_word, read_line};
 
+use crate::context::{Context, Place, may_come};
 use crate::forming::{CALLER_LIMIT, TURN_LIMIT, turns_in};
 use crate::kinds::values_of;
 use crate::line::Line;
 use crate::scenario::{Ask, Fault, Look, Slot};
-use crate::standing::{Place, Standing, stands};
 use crate::word::{Word, word_of_field};
 use gpi_values::{Gpi, Source, Space, World};
 use line_text::cut;
@@ -43,22 +43,22 @@ fn monitor_call(verb: u64, pa: u64, world: World) -> Ask
 }
 
 /// A line of the schedule, if its turns have room.
-fn slot(standing: Standing, slot: Slot) -> Result<Line, Fault>
-    requires limits { InLimits standing }
-    requires slot { IsSlot standing.callers slot }
-    ensures { result ≡ in_turns standing (Line.OneSlot slot) }
+fn slot(context: Context, slot: Slot) -> Result<Line, Fault>
+    requires limits { InLimits context }
+    requires slot { IsSlot context.callers slot }
+    ensures { result ≡ in_turns context (Line.OneSlot slot) }
 {
-    if standing.turns + turns_in(standing.callers, slot) > TURN_LIMIT {
+    if context.turns + turns_in(context.callers, slot) > TURN_LIMIT {
         return Err(Fault::Limit);
     }
     Ok(Line::OneSlot(slot))
 }
 
 /// What a line of this word says by its values, if its turns have room.
-fn line_with(standing: Standing, word: Word, values: [u64; 4]) -> Result<Line, Fault>
-    requires limits { InLimits standing }
-    requires fits { FitsPrefix (kinds_of standing word) values }
-    ensures { result ≡ in_turns standing (line_with word values) }
+fn line_with(context: Context, word: Word, values: [u64; 4]) -> Result<Line, Fault>
+    requires limits { InLimits context }
+    requires fits { FitsPrefix (kinds_of context word) values }
+    ensures { result ≡ in_turns context (line_with word values) }
 {
     let [first, second, third, fourth] = values;
     match word {
@@ -87,8 +87,8 @@ fn line_with(standing: Standing, word: Word, values: [u64; 4]) -> Result<Line, F
             let space = SPACES[second as usize];
             Ok(Line::OneLook(Look { pa: first, space }))
         }
-        Word::Turn => slot(standing, Slot::Turn(first as u32, second as u32)),
-        Word::Round => slot(standing, Slot::Round(first as u32, second as u32)),
+        Word::Turn => slot(context, Slot::Turn(first as u32, second as u32)),
+        Word::Round => slot(context, Slot::Round(first as u32, second as u32)),
         Word::End => Ok(Line::End),
     }
 }
@@ -101,31 +101,31 @@ fn is_caller(word: Word) -> bool
 
 /// What a line of this word says, with the fields after the word.
 #[tactic(auto, unfolding(crate::specs::InnerReading::read_word))]
-fn line_of_word(standing: Standing, word: Word, rest: Option<&[u8]>) -> Result<Line, Fault>
-    requires { InLimits standing }
-    ensures { result ≡ read_word standing word (fields_left rest.entry) }
+fn line_of_word(context: Context, word: Word, rest: Option<&[u8]>) -> Result<Line, Fault>
+    requires { InLimits context }
+    ensures { result ≡ read_word context word (fields_left rest.entry) }
 {
-    if is_caller(word) && standing.callers >= CALLER_LIMIT as u64 {
+    if is_caller(word) && context.callers >= CALLER_LIMIT as u64 {
         return Err(Fault::Limit);
     }
-    match values_of(standing, word, rest) {
-        Ok(values) => line_with(standing, word, values),
+    match values_of(context, word, rest) {
+        Ok(values) => line_with(context, word, values),
         Err(fault) => Err(Fault::from(fault)),
     }
 }
 
 /// What a line says, without its line feed, or its fault.
 #[tactic(auto, unfolding(crate::specs::InnerReading::read_line))]
-pub fn line_of(standing: Standing, line: &[u8]) -> Result<Line, Fault>
-    requires { InLimits standing }
-    ensures { result ≡ read_line standing (fields_in line.now) }
+pub fn line_of(context: Context, line: &[u8]) -> Result<Line, Fault>
+    requires { InLimits context }
+    ensures { result ≡ read_line context (fields_in line.now) }
 {
-    if matches!(standing.place, Place::Ended) {
+    if matches!(context.place, Place::Ended) {
         return Err(Fault::After);
     }
     let (first, rest) = cut(line, b' ');
     match word_of_field(first) {
-        Some(word) if stands(standing.place, word) => line_of_word(standing, word, rest),
+        Some(word) if may_come(context.place, word) => line_of_word(context, word, rest),
         _ => Err(Fault::Word),
     }
 }

@@ -303,7 +303,7 @@ const LONG: [(&str, &str, u64, &str, Option<TextError>); 19] = [
     ),
     // Many lines.
     ("cpu\n", "look 0x1000 root\n", 100_000, "end\n", None),
-    // Nothing stands after the end.
+    // Nothing comes after the end.
     ("end\n", "", 0, "x", Some(TextError::Line(10, Fault::After))),
     (
         "end\n",

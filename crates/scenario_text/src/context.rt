@@ -1,12 +1,12 @@
 ghost use Rattle.std.specs.Prelude.{◌≡◌, ◌+◌};
-ghost use Rattle.scenario_text.specs.Faults.{may_follow, may_stand, head_index, head_place};
+ghost use Rattle.scenario_text.specs.Faults.{may_follow, may_come, head_index, head_place};
 ghost use Rattle.scenario_text.specs.InnerReading.{InLimits, Next, place_after, after};
 
 use crate::forming::turns_in;
 use crate::line::Line;
 use crate::word::{Setting, Word};
 
-/// Where the next line stands.
+/// The place of the next line.
 #[derive(Clone, Copy, Debug, PartialEq, Eq)]
 pub enum Place {
     /// Line k of the head, counted from 0.
@@ -25,7 +25,7 @@ pub enum Place {
 
 /// A place, and what the lines before it say that later lines are held against.
 #[derive(Clone, Copy, Debug, PartialEq, Eq)]
-pub struct Standing {
+pub struct Context {
     pub place: Place,
     pub gigabytes: u64,
     pub callers: u64,
@@ -59,7 +59,7 @@ fn head_index(setting: Setting) -> u64
 }
 
 fn in_head(place: u64, word: Word) -> bool
-    ensures { result ≡ may_stand (Place.Head place) word }
+    ensures { result ≡ may_come (Place.Head place) word }
 {
     match word {
         Word::Setting(setting) => head_index(setting) == place,
@@ -67,9 +67,9 @@ fn in_head(place: u64, word: Word) -> bool
     }
 }
 
-/// Whether a line that begins with this word may stand here.
-pub fn stands(place: Place, word: Word) -> bool
-    ensures { result ≡ may_stand place word }
+/// Whether a line that begins with this word may come here.
+pub fn may_come(place: Place, word: Word) -> bool
+    ensures { result ≡ may_come place word }
 {
     match place {
         Place::Head(k) => in_head(k, word),
@@ -107,17 +107,17 @@ fn place_after(line: Line) -> Place
     }
 }
 
-impl Standing {
-    /// Where the first line stands.
-    pub const START: Standing = Standing {
+impl Context {
+    /// The context of the first line.
+    pub const START: Context = Context {
         place: Place::Head(0),
         gigabytes: 0,
         callers: 0,
         turns: 0,
     };
 
-    /// Where the line after this one stands.
-    pub fn after(self, line: Line) -> Standing
+    /// The context of the line after this one.
+    pub fn after(self, line: Line) -> Context
         requires limits { InLimits self }
         requires next { Next self line }
         ensures { result ≡ after self line }
