@@ -42,10 +42,10 @@ pub enum RowFault {
 }
 
 /// Whether a number is in a range.
-fn within(range: Range, number: u64) -> bool
-    ensures { result ≡ is_in (range_in range) number }
+fn within(range: &Range, number: u64) -> bool
+    ensures { result ≡ is_in (range_in range.now) number }
 {
-    match range {
+    match *range {
         Range::Any => true,
         Range::Between(first, last) => first <= number && number <= last,
         Range::Below(limit) => number < limit,
@@ -60,8 +60,8 @@ fn among(values: &[u64], number: u64) -> bool
 }
 
 /// The number of a field, if it has one and that is in its range.
-fn number(range: Range, found: Option<u64>) -> Result<u64, RowFault>
-    ensures { result ≡ ranged (range_in range) found }
+fn number(range: &Range, found: Option<u64>) -> Result<u64, RowFault>
+    ensures { result ≡ ranged (range_in range.now) found }
 {
     match found {
         None => Err(RowFault::Number),
@@ -85,8 +85,8 @@ fn place_of(names: &[&str], field: &[u8]) -> Option<usize>
 }
 
 /// The value of a field.
-pub fn value(kind: FieldKind, field: &[u8]) -> Result<u64, RowFault>
-    ensures { result ≡ read_field (kind_in kind) field.now }
+pub fn value(kind: &FieldKind, field: &[u8]) -> Result<u64, RowFault>
+    ensures { result ≡ read_field (kind_in kind.now) field.now }
 {
     match kind {
         FieldKind::Count(range) => number(range, count_of(field)),

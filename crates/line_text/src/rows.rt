@@ -1,7 +1,7 @@
 ghost use Rattle.std.specs.Prelude.{◌≡◌, ◌≤◌, IfOk, length};
 ghost use Rattle.std.specs.Result.{result_err};
 ghost use Rattle.line_text.specs.Rows.{row_fault};
-ghost use Rattle.line_text.specs.InnerRows.{kinds_in, fields_left, has_shape, FitsPrefix, ok_padded, read_values, read_row, spell};
+ghost use Rattle.line_text.specs.InnerRows.{kinds_in, fields_left, has_shape, FitsPrefix, Gives, kind_in, ok_padded, read_next, read_values, read_row, spell};
 
 use crate::cutting::{next_field, no_field};
 use crate::kind::{FieldKind, RowFault, value};
@@ -20,26 +20,46 @@ fn fits(kinds: &[FieldKind], rest: Option<&[u8]>) -> bool
     }
 }
 
+/// The value of the next field, and what has the fields after it.
+#[tactic(auto, unfolding(crate::specs::InnerRows::read_next))]
+fn next_value<'a>(
+    kind: &FieldKind,
+    rest: Option<&'a [u8]>,
+) -> Result<(u64, Option<&'a [u8]>), RowFault>
+    ensures { Gives (λ x. (x.0, fields_left x.1)) result (read_next (kind_in kind.now) (fields_left rest.entry)) }
+{
+    let (field, rest) = next_field(rest)?;
+    let value = value(kind, field)?;
+    Ok((value, rest))
+}
+
 /// The values of some fields, with zeros after them, or the fault of the first bad one.
-#[tactic(auto, unfolding(crate::specs::InnerRows::read_values, crate::specs::InnerRows::next_of))]
 fn values(kinds: &[FieldKind], rest: Option<&[u8]>) -> Result<[u64; 4], RowFault>
+    requires { length kinds.now ≤ 4 }
     ensures { result ≡ ok_padded (read_values (kinds_in kinds.now) (fields_left rest.entry)) }
 {
-    match kinds {
-        [] if no_field(rest) => Ok([0; 4]),
-        [] => Err(RowFault::Fields),
-        [kind, kinds @ ..] => {
-            let (field, rest) = next_field(rest)?;
-            let first = value(*kind, field)?;
-            let [second, third, fourth, _] = values(kinds, rest)?;
-            Ok([first, second, third, fourth])
+    let mut values = [0; 4];
+    let mut rest = rest;
+    for (place, kind) in kinds.iter().enumerate() {
+        match next_value(kind, rest) {
+            Ok((value, more)) => {
+                values[place] = value;
+                rest = more;
+            }
+            Err(fault) => return Err(fault),
         }
+    }
+    if no_field(rest) {
+        Ok(values)
+    } else {
+        Err(RowFault::Fields)
     }
 }
 
 /// The values of a row, or its fault: the shape is looked at again only where a field is bad.
 #[tactic(auto, using(crate::proofs::RowLemmas::row_of_values, crate::proofs::RowLemmas::row_of_fault, crate::proofs::RowLemmas::row_of_bad))]
 fn read(kinds: &[FieldKind], rest: Option<&[u8]>) -> Result<[u64; 4], RowFault>
+    requires { length kinds.now ≤ 4 }
     ensures { result ≡ ok_padded (read_row (kinds_in kinds.now) (fields_left rest.entry)) }
 {
     match values(kinds, rest) {

@@ -40,10 +40,9 @@ word_text word.End = codes "end"
 
 abbrev pub all_words : List Word
 all_words =
-    word.Setting setting.Gpt ∷ word.Setting setting.Space ∷ word.Setting setting.Max ∷ word.Setting setting.Locks
-    ∷ word.Setting setting.First ∷ word.Setting setting.Ring ∷ word.Setting setting.Tables ∷ word.Setting setting.Base
-    ∷ word.Region ∷ word.Agent ∷ word.Delegate ∷ word.Undelegate ∷ word.Smc ∷ word.Cpu ∷ word.Look ∷ word.Turn
-    ∷ word.Round ∷ word.End ∷ []
+    word.Look ∷ word.Turn ∷ word.Round ∷ word.Delegate ∷ word.Undelegate ∷ word.Smc ∷ word.Region ∷ word.Agent ∷ word.Cpu
+    ∷ word.End ∷ word.Setting setting.Gpt ∷ word.Setting setting.Space ∷ word.Setting setting.Max ∷ word.Setting setting.Locks
+    ∷ word.Setting setting.First ∷ word.Setting setting.Ring ∷ word.Setting setting.Tables ∷ word.Setting setting.Base ∷ []
 
 -- the word that a field is
 unfoldable pub word_of : List ℕ → Option Word

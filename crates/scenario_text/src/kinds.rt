@@ -24,6 +24,14 @@ const WORLD: FieldKind = FieldKind::Name(&["realm", "secure", "nonsecure"]);
 
 const VERB: FieldKind = FieldKind::Name(&["delegate", "undelegate"]);
 
+static REGION: [FieldKind; 4] = [ADDRESS, ADDRESS, KIND, GPI];
+
+static CALL: [FieldKind; 2] = [ADDRESS, SOURCE];
+
+static MONITOR_CALL: [FieldKind; 3] = [VERB, ADDRESS, WORLD];
+
+static ROUND: [FieldKind; 2] = [TURNS, TURNS];
+
 /// What the value of a setting has to be.
 fn setting_kind(setting: Setting) -> FieldKind
     ensures { kind_in result ≡ setting_kind setting }
@@ -48,9 +56,9 @@ pub fn values_of(context: Context, word: Word, rest: Option<&[u8]>) -> Result<[u
 {
     match word {
         Word::Setting(setting) => row(&[setting_kind(setting)], rest),
-        Word::Region => row(&[ADDRESS, ADDRESS, KIND, GPI], rest),
-        Word::Delegate | Word::Undelegate => row(&[ADDRESS, SOURCE], rest),
-        Word::Smc => row(&[VERB, ADDRESS, WORLD], rest),
+        Word::Region => row(&REGION, rest),
+        Word::Delegate | Word::Undelegate => row(&CALL, rest),
+        Word::Smc => row(&MONITOR_CALL, rest),
         Word::Look => {
             let space = Range::Below(context.gigabytes * REGION_BYTES);
             row(&[FieldKind::Address(space), SPACE], rest)
@@ -59,7 +67,7 @@ pub fn values_of(context: Context, word: Word, rest: Option<&[u8]>) -> Result<[u
             let callers = Range::Below(context.callers);
             row(&[FieldKind::Count(callers), TURNS], rest)
         }
-        Word::Round => row(&[TURNS, TURNS], rest),
+        Word::Round => row(&ROUND, rest),
         Word::Agent | Word::Cpu | Word::End => row(&[], rest),
     }
 }

@@ -32,7 +32,18 @@ pub enum Word {
     End,
 }
 
+/// The words, those of many lines first.
 const WORDS: [Word; 18] = [
+    Word::Look,
+    Word::Turn,
+    Word::Round,
+    Word::Delegate,
+    Word::Undelegate,
+    Word::Smc,
+    Word::Region,
+    Word::Agent,
+    Word::Cpu,
+    Word::End,
     Word::Setting(Setting::Gpt),
     Word::Setting(Setting::Space),
     Word::Setting(Setting::Max),
@@ -41,16 +52,6 @@ const WORDS: [Word; 18] = [
     Word::Setting(Setting::Ring),
     Word::Setting(Setting::Tables),
     Word::Setting(Setting::Base),
-    Word::Region,
-    Word::Agent,
-    Word::Delegate,
-    Word::Undelegate,
-    Word::Smc,
-    Word::Cpu,
-    Word::Look,
-    Word::Turn,
-    Word::Round,
-    Word::End,
 ];
 
 fn name_of_setting(setting: Setting) -> &'static str
