@@ -1,5 +1,5 @@
 -- Where a list is cut the first time.
-use Rattle.std.proofs.Common.{◌≡◌, ℕ, suc, cond, false, ap, ◌+◌, ◌-◌, ◌≤◌, Bool, ltb, List, [], ◌∷◌, length, take, drop, Some, None, refl, inl, inr, arith}
+use Rattle.std.proofs.Common.{◌≡◌, ℕ, cond, false, ap, ◌+◌, ◌-◌, ◌≤◌, Bool, ltb, List, [], ◌∷◌, length, take, drop, Some, None, refl, inl, inr, arith}
 use Rattle.std.specs.Prelude.{position, map, ◌==◌, not}
 use Rattle.std.specs.List.{slice_split, position_or_len}
 use Rattle.std.proofs.lemmas.Bool.{cases_Bool, ltb-true, ltb-false, ne_eqb}

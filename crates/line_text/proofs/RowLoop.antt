@@ -1,5 +1,5 @@
 -- Reading a row's values one after the other, as a loop does.
-use Rattle.std.proofs.Common.{◌≡◌, ℕ, suc, ◌+◌, ◌<◌, ◌≤◌, Bool, true, false, List, [], ◌∷◌, length, map, get_or, set, drop, Option, Result, Ok, Err, refl, sym, ap, ◌∙◌, arith}
+use Rattle.std.proofs.Common.{◌≡◌, ℕ, suc, ◌+◌, ◌<◌, ◌≤◌, true, false, List, [], ◌∷◌, length, map, get_or, set, drop, Result, Ok, Err, refl, sym, ap, ◌∙◌, arith}
 use Rattle.std.specs.Prelude.{◌==◌}
 use Rattle.std.proofs.lemmas.List.{set_past, drop_all}
 use Rattle.std.proofs.Math.Seq.{drop-cons}
@@ -7,7 +7,7 @@ use Rattle.line_text.specs.declared.kind.FieldKind.{FieldKind as KindInCode}
 use Rattle.line_text.specs.declared.kind.RowFault.{RowFault}
 use Rattle.line_text.specs.declared.kind.RowFault.TheVariants as fault
 use Rattle.line_text.specs.Rows.{FieldKind}
-use Rattle.line_text.specs.InnerRows.{◌>>=◌, kind_in, next_of, read_field, read_next, read_values, padded, ok_padded, written_from, ok_from}
+use Rattle.line_text.specs.InnerRows.{◌>>=◌, kind_in, next_of, read_field, read_next, read_values, ok_padded, written_from, ok_from}
 
 past : (k : ℕ) (vs values : List ℕ) → length values ≤ k → written_from k vs values ≡ values
 past k [] values le = refl

@@ -1,14 +1,14 @@
 -- Lists of lines that may come one after the other are the lines of well-formed scenarios, each of one. What comes
 -- after a place is read from the right: a line is added before what comes after it.
-use Rattle.std.proofs.Common.{◌≡◌, ℕ, suc, ◌+◌, ◌*◌, ◌^◌, ◌<◌, ◌≤◌, true, List, [], ◌∷◌, ◌++◌, length, map, get_or, Option, Some, None, refl, sym, ap, subst, ◌∙◌, append_assoc, arith, inl, inr, ◌⊎◌}
-use Rattle.std.specs.Prelude.{◌==◌, sum_by}
+use Rattle.std.proofs.Common.{◌≡◌, ℕ, suc, ◌+◌, ◌*◌, ◌^◌, ◌<◌, ◌≤◌, true, List, [], ◌∷◌, ◌++◌, length, map, get_or, Option, Some, None, refl, sym, ap, subst, ◌∙◌, append_assoc, arith, inl, inr}
+use Rattle.std.specs.Prelude.{sum_by}
 use Rattle.std.specs.List.{flat_map, AllByRecursion, fold}
 use Rattle.std.proofs.lemmas.Bool.{eqb-true, eq-eqb}
 use Rattle.std.proofs.lemmas.List.{append-nil}
 use Rattle.gpt_descriptors.specs.declared.size.MaxBlock.{MaxBlock}
 use Rattle.gpt_descriptors.specs.declared.size.MaxBlock.TheVariants as most
 use Rattle.gpt_descriptors.specs.Sizes.{SetupData, IsSetup, space_bytes, region_bytes}
-use Rattle.line_text.specs.InnerRows.{FieldFits, Fits, IsAmong}
+use Rattle.line_text.specs.InnerRows.{Fits, IsAmong}
 use Rattle.line_text.proofs.RowLemmas.{among_fits, ForRow, each_row}
 use Rattle.region_plan.specs.declared.region.Region.{Region}
 use Rattle.scenario_text.specs.declared.line.Line.{Line}
@@ -29,8 +29,8 @@ use Rattle.scenario_text.specs.declared.word.Setting.TheVariants as setting
 use Rattle.scenario_text.specs.declared.word.Word.TheVariants as word
 use Rattle.scenario_text.specs.Spelling.{max_count, head_lines, script_lines, lines_of, IsRegion, IsAsk, IsScript, IsSlot, turns_of, caller_limit, turn_limit, WellFormed}
 use Rattle.scenario_text.specs.Faults.{start, head_index, head_place, may_come, setting_kind}
-use Rattle.scenario_text.specs.InnerReading.{InLimits, InRange, Next, word_for, gigabytes_after, after}
-use Rattle.scenario_text.specs.InnerDrafts.{DraftData, nothing_read, closed, with_ask, with_look, max_of, taken, taken_all, scenario_of}
+use Rattle.scenario_text.specs.InnerReading.{InLimits, Next, word_for, gigabytes_after, after}
+use Rattle.scenario_text.specs.InnerDrafts.{DraftData, nothing_read, closed, with_ask, with_look, max_of, taken_all, scenario_of}
 
 -- each line may come after the ones before it, and the last one is the end line
 abbrev pub Accepts : Context → List Line → Type 0

@@ -1,10 +1,10 @@
 -- The lines of each word: what is read of a line is how the line is spelled and may come next, a line that may come
 -- next is read from its own fields, and the fault of a line is the one that reading meets. Rows do the work: a word
 -- gives one line of said, and a line one of spoken.
-use Rattle.std.proofs.Common.{◌≡◌, ℕ, ◌+◌, ◌*◌, ◌^◌, ◌<◌, ◌≤◌, Bool, true, false, cond, List, [], ◌∷◌, length, map, get_or, drop, Option, Some, None, Result, Ok, Err, refl, sym, ap, subst, ◌∙◌, arith, inl, inr, ◌⊎◌}
+use Rattle.std.proofs.Common.{◌≡◌, ℕ, ◌+◌, ◌*◌, ◌^◌, ◌<◌, ◌≤◌, Bool, true, false, cond, List, [], ◌∷◌, length, get_or, drop, Option, Some, None, Result, Ok, Err, refl, sym, ap, subst, ◌∙◌, arith, inl, inr}
 use Rattle.std.specs.Prelude.{◌==◌, ◌&&◌, nat_lt, nat_le, codes, unwrap_or}
 use Rattle.std.specs.Result.{result_err}
-use Rattle.std.specs.List.{AllByRecursion, find}
+use Rattle.std.specs.List.{find}
 use Rattle.std.specs.Option.{option_or, option_map}
 use Rattle.std.specs.Str.{bytes_eq}
 use Rattle.std.proofs.lemmas.Bool.{cases_Bool, cases_eq, ltb-false, leb-false, le-ltb, lt-leb}
@@ -19,7 +19,6 @@ use Rattle.gpi_values.specs.declared.security.Source.TheVariants as source
 use Rattle.gpi_values.specs.declared.security.World.{World}
 use Rattle.gpi_values.specs.declared.security.World.TheVariants as world
 use Rattle.gpi_values.specs.Names.{name_of, space_name_of, source_name_of, world_name_of}
-use Rattle.gpt_descriptors.specs.Sizes.{region_bytes}
 use Rattle.line_text.specs.declared.kind.RowFault.{RowFault}
 use Rattle.line_text.specs.Rows.{row_fault}
 use Rattle.line_text.specs.InnerRows.{◌>>=◌, Fits, spell, spell_field, padded, ok_padded, read_row}
@@ -32,7 +31,6 @@ use Rattle.region_plan.specs.declared.region.Kind.TheVariants as kind
 use Rattle.scenario_text.specs.declared.line.Line.{Line}
 use Rattle.scenario_text.specs.declared.line.Line.TheVariants as says
 use Rattle.scenario_text.specs.declared.scenario.Ask.TheVariants as ask
-use Rattle.scenario_text.specs.declared.scenario.Slot.{Slot}
 use Rattle.scenario_text.specs.declared.scenario.Slot.TheVariants as slot
 use Rattle.scenario_text.specs.declared.scenario.Fault.{Fault}
 use Rattle.scenario_text.specs.declared.scenario.Fault.TheVariants as fault
@@ -43,7 +41,7 @@ use Rattle.scenario_text.specs.declared.word.Setting.{Setting}
 use Rattle.scenario_text.specs.declared.word.Setting.TheVariants as setting
 use Rattle.scenario_text.specs.declared.word.Word.{Word}
 use Rattle.scenario_text.specs.declared.word.Word.TheVariants as word
-use Rattle.scenario_text.specs.Spelling.{count, address, setting_value, kind_name, fields_of, caller_limit, turn_limit, turns_of, IsRegion, IsAsk, IsSlot}
+use Rattle.scenario_text.specs.Spelling.{count, address, setting_value, kind_name, fields_of, caller_limit, turn_limit, turns_of, IsSlot}
 use Rattle.scenario_text.specs.Faults.{word_text, all_words, word_of, may_come, setting_kind, kinds_of, number_of, line_turns, is_caller, fault_of, known_word_fault, line_fault, after_line, is_ended}
 use Rattle.scenario_text.specs.InnerReading.{all_gpis, all_spaces, all_sources, all_worlds, all_kinds, monitor_call, line_with, in_turns, or_fault, read_values, read_word, read_known, read_fields, read_line, InLimits, word_for, InRange, Next, place_after, gigabytes_after, callers_after, after}
 

@@ -1,4 +1,4 @@
-use Rattle.line_text.specs.InnerRows.{kind_in, fields_left, read_values, ok_padded}
+use Rattle.line_text.specs.InnerRows.{kind_in, fields_left, read_values}
 use Rattle.std.proofs.Common.{map, sym}
 use Rattle.line_text.proofs.RowLoop.{from_start, goes_on, stops, ends, ends_badly}
 use Rattle.line_text.proofs.rows.values.Goals as goal
