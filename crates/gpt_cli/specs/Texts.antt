@@ -2,7 +2,7 @@
 use Rattle.std.specs.Prelude.{ℕ, List, [], ◌∷◌, ◌++◌, codes}
 use Rattle.scenario_text.specs.declared.scenario.Fault.{Fault}
 use Rattle.scenario_text.specs.declared.scenario.Fault.TheVariants as fault
-use Rattle.scenario_text.specs.Spelling.{count, address}
+use Rattle.line_text.specs.Lines.{count, address}
 use Rattle.region_plan.specs.declared.refusing.PlanError.{PlanError}
 use Rattle.region_plan.specs.declared.refusing.PlanError.TheVariants as refused
 

@@ -18,7 +18,7 @@ use Rattle.gpt_descriptors.specs.Level0.{is_table, table_count, l1_index}
 use Rattle.gpt_descriptors.specs.Places.{GeometryData, IsGeometry, Generation, Line, place_of, word_count, l0_words, blocks_in_region, l1_index_of, line_place_of}
 use Rattle.gpt_descriptors.proofs.SizeLemmas.{word_is, table_whole, table_words_low, word_bytes_low, granule_low}
 use Rattle.gpt_descriptors.proofs.PlaceLemmas.{index_within, place_below}
-use Rattle.scenario_text.specs.Spelling.{address}
+use Rattle.line_text.specs.Lines.{address}
 use Rattle.report_text.specs.TablesText.{line}
 use Rattle.report_text.specs.RunText.{held_line, held_text, tables_part_text, generations_text, generation_line, lines_text, state_text, granule_lines, is_set_at, space_number}
 use Rattle.report_text.specs.RunParts.{changed_line, set_line, set_lines, word_lines, granules_text, held_upto, generations_upto}

@@ -11,7 +11,7 @@ use Rattle.gpt_descriptors.specs.Places.{GeometryData}
 use Rattle.history.specs.declared.call.Answer.{Answer}
 use Rattle.history.specs.Legality.{is_seen}
 use Rattle.rmm_calls.specs.Codes.{code_of}
-use Rattle.scenario_text.specs.Spelling.{count, address}
+use Rattle.line_text.specs.Lines.{count, address}
 use Rattle.report_text.specs.TablesText.{line}
 use Rattle.report_text.specs.RunText.{size_name, space_number, held_line, generation_line, granule_lines}
 

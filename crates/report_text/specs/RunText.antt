@@ -26,7 +26,7 @@ use Rattle.scenario_text.specs.declared.scenario.Script.{Script}
 use Rattle.scenario_text.specs.declared.scenario.Script.TheVariants as script
 use Rattle.scenario_text.specs.declared.scenario.Ask.{Ask}
 use Rattle.scenario_text.specs.declared.scenario.Ask.TheVariants as ask
-use Rattle.scenario_text.specs.Spelling.{count, address}
+use Rattle.line_text.specs.Lines.{count, address}
 use Rattle.report_text.specs.declared.run.Mode.{Mode}
 use Rattle.report_text.specs.declared.run.Mode.TheVariants as mode
 use Rattle.report_text.specs.TablesText.{line, words_text, report_line, end_line}

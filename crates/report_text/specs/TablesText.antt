@@ -1,16 +1,14 @@
 -- The text of tables: lines of fields between single spaces, each ended by a line feed.
 use Rattle.std.specs.Prelude.{ℕ, ◌*◌, List, [], ◌∷◌, ◌++◌, take, drop, codes}
-use Rattle.std.specs.List.{flat_map, join_with_byte, range_with_len}
+use Rattle.std.specs.List.{flat_map, range_with_len}
 use Rattle.gpt_descriptors.specs.Sizes.{table_words}
 use Rattle.gpt_descriptors.specs.Level0.{table_count}
-use Rattle.scenario_text.specs.Spelling.{count, address}
+pub use Rattle.line_text.specs.Lines.{line}
+use Rattle.line_text.specs.Lines.{count, address}
 use Rattle.table_build.specs.TableData.{TableData}
 use Rattle.report_text.specs.declared.level.Level.{Level}
 use Rattle.report_text.specs.declared.level.Level.TheVariants as level
 use Rattle.report_text.specs.Runs.{Run, runs_of}
-
-abbrev pub line : List (List ℕ) → List ℕ
-line fields = join_with_byte 32 fields ++ 10 ∷ []
 
 abbrev pub level_fields : Level → List (List ℕ)
 level_fields level.Zero = codes "l0" ∷ []

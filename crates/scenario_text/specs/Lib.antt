@@ -1,5 +1,5 @@
 pub mod Spelling
-pub mod Numerals
 pub mod Faults
-pub mod Reading
-pub mod Drafts
+pub mod InnerReading
+pub mod InnerDrafts
+pub mod InnerPrinting

@@ -1,7 +1,8 @@
 -- The one text of a scenario: a list of lines, each a list of fields.
-use Rattle.std.specs.Prelude.{ℕ, ◌*◌, ◌^◌, ◌<◌, ◌≤◌, List, [], ◌∷◌, ◌++◌, length, map, sum_by, codes, false}
-use Rattle.std.specs.List.{flat_map, join_with_byte, AllByRecursion}
-use Rattle.std.specs.Fmt.{decimal, digits}
+use Rattle.std.specs.Prelude.{ℕ, ◌*◌, ◌^◌, ◌<◌, ◌≤◌, List, [], ◌∷◌, ◌++◌, length, map, sum_by, codes}
+use Rattle.std.specs.List.{flat_map, AllByRecursion}
+pub use Rattle.line_text.specs.Lines.{count, address}
+use Rattle.line_text.specs.Lines.{line}
 use Rattle.gpi_values.specs.Names.{name_of, space_name_of, source_name_of, world_name_of}
 use Rattle.gpt_descriptors.specs.declared.size.MaxBlock.{MaxBlock}
 use Rattle.gpt_descriptors.specs.declared.size.MaxBlock.TheVariants as most
@@ -10,7 +11,7 @@ use Rattle.region_plan.specs.declared.region.Kind.{Kind}
 use Rattle.region_plan.specs.declared.region.Kind.TheVariants as kind
 use Rattle.region_plan.specs.declared.region.Region.{Region}
 pub use Rattle.scenario_text.specs.declared.line.Line.{Line}
-pub use Rattle.scenario_text.specs.declared.line.Line.TheVariants.{Version, Space, Max, Locks, First, Ring, Tables, Base, OneRegion, NewAgent, NewCpu, OneAsk, OneLook, OneSlot, End}
+pub use Rattle.scenario_text.specs.declared.line.Line.TheVariants.{OneSetting, OneRegion, NewAgent, NewCpu, OneAsk, OneLook, OneSlot, End}
 use Rattle.scenario_text.specs.declared.scenario.Scenario.{Scenario}
 use Rattle.scenario_text.specs.declared.scenario.Script.{Script}
 use Rattle.scenario_text.specs.declared.scenario.Script.TheVariants as script
@@ -18,16 +19,25 @@ use Rattle.scenario_text.specs.declared.scenario.Ask.{Ask}
 use Rattle.scenario_text.specs.declared.scenario.Ask.TheVariants as ask
 use Rattle.scenario_text.specs.declared.scenario.Slot.{Slot}
 use Rattle.scenario_text.specs.declared.scenario.Slot.TheVariants as slot
+use Rattle.scenario_text.specs.declared.word.Setting.{Setting}
+use Rattle.scenario_text.specs.declared.word.Setting.TheVariants as setting
 
 -- ---- fields
 
--- a count: decimal digits without a leading zero
-abbrev pub count : ℕ → List ℕ
-count n = decimal n
+abbrev pub setting_name : Setting → List ℕ
+setting_name setting.Gpt = codes "gpt"
+setting_name setting.Space = codes "space"
+setting_name setting.Max = codes "max"
+setting_name setting.Locks = codes "locks"
+setting_name setting.First = codes "first"
+setting_name setting.Ring = codes "ring"
+setting_name setting.Tables = codes "tables"
+setting_name setting.Base = codes "base"
 
--- an address: 0x and hexadecimal digits without a leading zero
-abbrev pub address : ℕ → List ℕ
-address n = codes "0x" ++ digits 16 false n
+-- the base is an address, each other setting a count
+abbrev pub setting_value : Setting → ℕ → List ℕ
+setting_value setting.Base n = address n
+setting_value s n = count n
 
 abbrev pub max_count : MaxBlock → ℕ
 max_count most.Zero = 0
@@ -42,14 +52,7 @@ kind_name kind.Granule = codes "granule"
 -- ---- lines
 
 abbrev pub fields_of : Line → List (List ℕ)
-fields_of (Version n) = codes "gpt" ∷ count n ∷ []
-fields_of (Space n) = codes "space" ∷ count n ∷ []
-fields_of (Max m) = codes "max" ∷ count (max_count m) ∷ []
-fields_of (Locks n) = codes "locks" ∷ count n ∷ []
-fields_of (First n) = codes "first" ∷ count n ∷ []
-fields_of (Ring n) = codes "ring" ∷ count n ∷ []
-fields_of (Tables n) = codes "tables" ∷ count n ∷ []
-fields_of (Base n) = codes "base" ∷ address n ∷ []
+fields_of (OneSetting s n) = setting_name s ∷ setting_value s n ∷ []
 fields_of (OneRegion r) = codes "region" ∷ address r.base ∷ address r.size ∷ kind_name r.kind ∷ name_of r.gpi ∷ []
 fields_of NewAgent = codes "agent" ∷ []
 fields_of NewCpu = codes "cpu" ∷ []
@@ -62,16 +65,17 @@ fields_of (OneSlot (slot.Turn caller turns)) = codes "turn" ∷ count caller ∷
 fields_of (OneSlot (slot.Round turns times)) = codes "round" ∷ count turns ∷ count times ∷ []
 fields_of End = codes "end" ∷ []
 
--- the fields between single spaces, and a line feed
 abbrev pub line_text : Line → List ℕ
-line_text line = join_with_byte 32 (fields_of line) ++ 10 ∷ []
+line_text l = line (fields_of l)
 
 -- ---- scenarios
 
+-- the version of the format is 1
 abbrev pub head_lines : SetupData → List Line
 head_lines s =
-    Version 1 ∷ Space s.gigabytes ∷ Max s.max ∷ Locks s.lock_blocks ∷ First s.first ∷ Ring s.ring ∷ Tables s.tables
-    ∷ Base s.base ∷ []
+    OneSetting setting.Gpt 1 ∷ OneSetting setting.Space s.gigabytes ∷ OneSetting setting.Max (max_count s.max)
+    ∷ OneSetting setting.Locks s.lock_blocks ∷ OneSetting setting.First s.first ∷ OneSetting setting.Ring s.ring
+    ∷ OneSetting setting.Tables s.tables ∷ OneSetting setting.Base s.base ∷ []
 
 abbrev pub script_lines : Script → List Line
 script_lines (script.Agent asks) = NewAgent ∷ map OneAsk asks

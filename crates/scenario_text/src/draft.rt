@@ -1,10 +1,11 @@
 ghost use Rattle.std.specs.Prelude.{◌≡◌, OnOk, IfErr, None};
 ghost use Rattle.gpt_descriptors.specs.Sizes.{IsSetup};
 ghost use Rattle.scenario_text.specs.declared.scenario.TextError.TheVariants.{Memory};
-ghost use Rattle.scenario_text.specs.Drafts.{setup_of, data_of, opened_of, taken, nothing_read, scenario_of, closed, with_ask, with_look};
+ghost use Rattle.scenario_text.specs.InnerDrafts.{max_of, setup_with, setup_of, data_of, opened_of, taken, nothing_read, scenario_of, closed, with_ask, with_look};
 
 use crate::line::Line;
 use crate::scenario::{Ask, Look, Scenario, Script, Slot, TextError};
+use crate::word::Setting;
 use gpi_values::Listed;
 use gpt_descriptors::{MaxBlock, Setup};
 use region_plan::Region;
@@ -21,6 +22,34 @@ pub struct Head {
     pub ring: u64,
     pub tables: u64,
     pub base: u64,
+}
+
+fn max_of(count: u64) -> MaxBlock
+    ensures { result ≡ max_of count }
+{
+    match count {
+        2 => MaxBlock::Two,
+        32 => MaxBlock::ThirtyTwo,
+        512 => MaxBlock::FiveTwelve,
+        _ => MaxBlock::Zero,
+    }
+}
+
+impl Head {
+    fn set(&mut self, setting: Setting, value: u64)
+        ensures { setup_of self.new ≡ setup_with (setup_of self.old) setting value }
+    {
+        match setting {
+            Setting::Gpt => {}
+            Setting::Space => self.gigabytes = value,
+            Setting::Max => self.max = max_of(value),
+            Setting::Locks => self.lock_blocks = value,
+            Setting::First => self.first = value,
+            Setting::Ring => self.ring = value,
+            Setting::Tables => self.tables = value,
+            Setting::Base => self.base = value,
+        }
+    }
 }
 
 /// The script that is being read.
@@ -129,14 +158,7 @@ impl Draft {
         ensures memory { IfErr result (λ e. e ≡ Memory) }
     {
         match line {
-            Line::Version(_) => {}
-            Line::Space(n) => self.head.gigabytes = n,
-            Line::Max(max) => self.head.max = max,
-            Line::Locks(n) => self.head.lock_blocks = n,
-            Line::First(n) => self.head.first = n,
-            Line::Ring(n) => self.head.ring = n,
-            Line::Tables(n) => self.head.tables = n,
-            Line::Base(n) => self.head.base = n,
+            Line::OneSetting(setting, value) => self.head.set(setting, value),
             Line::OneRegion(region) => self.regions.push(region)?,
             Line::NewAgent => self.open(Open::Agent(Vec::new(alloc)))?,
             Line::NewCpu => self.open(Open::Cpu(Vec::new(alloc)))?,

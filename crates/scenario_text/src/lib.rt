@@ -2,24 +2,22 @@
 //! processors with their calls, and a schedule of their turns. Each scenario has one text.
 #![tactic(auto)]
 
+mod context;
 mod draft;
-mod fields;
 mod forming;
+mod kinds;
 mod laws;
 mod line;
-mod numeral;
 mod parsing;
 mod printing;
 mod reading;
 mod scenario;
-mod standing;
 mod word;
 
 pub use forming::well_formed;
 pub use gpi_values::{Listed, Source, Space, World};
 pub use gpt_descriptors::{MaxBlock, Setup};
 pub use laws::texts_are_exact;
-pub use numeral::{address_of, count_of};
 pub use parsing::parse;
 pub use printing::print;
 pub use region_plan::{Kind, Region};

@@ -1,33 +1,19 @@
-ghost use Rattle.std.specs.Prelude.{◌≡◌, ◌<◌, ◌==◌, ℕ, List, [], ◌∷◌, length, IfOk, IfSome, IfNone, MatchResult, None};
-ghost use Rattle.std.specs.List.{slice_split};
+ghost use Rattle.std.specs.Prelude.{◌≡◌, List, [], IfOk, MatchResult, None};
 ghost use Rattle.scenario_text.specs.declared.scenario.Scenario.{Scenario};
 ghost use Rattle.scenario_text.specs.declared.scenario.TextError.TheVariants.{Memory};
-ghost use Rattle.scenario_text.specs.Spelling.{WellFormed, text_of, lines_of};
+ghost use Rattle.scenario_text.specs.Spelling.{WellFormed, text_of};
 ghost use Rattle.scenario_text.specs.Faults.{first_bad, rest_fault, IsFault};
-ghost use Rattle.scenario_text.specs.Reading.{Reads, unless, read_all};
+ghost use Rattle.scenario_text.specs.InnerReading.{Reads, unless, read_all};
+ghost use Rattle.scenario_text.specs.InnerDrafts.{nothing_read, scenario_with};
 
+use crate::context::{Context, Place};
 use crate::draft::Draft;
-use crate::fields::cut;
 use crate::reading::line_of;
 use crate::scenario::{Fault, Scenario, TextError};
-use crate::standing::{Place, Standing};
+use line_text::next_line;
 use std::alloc::Global;
 
-/// The next line, without its line feed, and what stands behind it; `None` where no line feed is
-/// left.
-fn next_line(bytes: &[u8]) -> Option<(&[u8], &[u8])>
-    ensures some { IfSome result (λ x. slice_split (λ c. c == 10) bytes.now ≡ x.0.now ∷ slice_split (λ c. c == 10) x.1.now) }
-    ensures shorter { IfSome result (λ x. length x.1.now < length bytes.now) }
-    ensures none { IfNone result (slice_split (λ c. c == 10) bytes.now ≡ bytes.now ∷ []) }
-{
-    let (line, rest) = cut(bytes, b'\n');
-    match rest {
-        Some(rest) => Some((line, rest)),
-        None => None,
-    }
-}
-
-/// Whether the text may end here, with these bytes behind its last line feed.
+/// Whether the text may end here, with these bytes after its last line feed.
 fn end(place: Place, number: u64, rest: &[u8]) -> Result<(), TextError>
     ensures { Reads (λ x. []) result (unless (rest_fault place number rest.now)) }
 {
@@ -40,24 +26,23 @@ fn end(place: Place, number: u64, rest: &[u8]) -> Result<(), TextError>
 
 /// The scenario of a text, line by line.
 fn scenario(alloc: Global, bytes: &[u8]) -> Result<Scenario, TextError>
-    ensures read { Reads lines_of result (read_all bytes.now) }
-    ensures formed { IfOk result (λ s. WellFormed s) }
+    ensures { Reads (λ s. s) result (scenario_with nothing_read (read_all bytes.now)) }
 {
     let mut draft = Draft::new(alloc);
-    let mut standing = Standing::START;
+    let mut context = Context::START;
     let mut number = 1;
     let mut rest = bytes;
     while let Some((line, more)) = next_line(rest) {
-        let said = match line_of(standing, line) {
+        let said = match line_of(context, line) {
             Ok(said) => said,
             Err(fault) => return Err(TextError::Line(number, fault)),
         };
         draft.take(alloc, said)?;
-        standing = standing.after(said);
+        context = context.after(said);
         number += 1;
         rest = more;
     }
-    end(standing.place, number, rest)?;
+    end(context.place, number, rest)?;
     Ok(draft.finish())
 }
 

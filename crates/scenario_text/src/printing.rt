@@ -1,7 +1,9 @@
-ghost use Rattle.std.specs.Prelude.{◌≡◌, ◌++◌, ◌∷◌, [], map, IfOk, string_bytes};
-ghost use Rattle.std.specs.List.{flat_map, join_with_byte};
+ghost use Rattle.std.specs.Prelude.{◌≡◌, ◌∷◌, [], map, IfOk};
+ghost use Rattle.std.specs.List.{flat_map};
+ghost use Rattle.line_text.specs.Lines.{line};
 ghost use Rattle.gpi_values.specs.Names.{source_name_of, world_name_of};
-ghost use Rattle.scenario_text.specs.Spelling.{WellFormed, text_of, line_text, head_lines, script_lines, address, max_count, kind_name, Version, Space, Max, Locks, First, Ring, Tables, Base, OneRegion, OneAsk, OneLook, OneSlot};
+ghost use Rattle.scenario_text.specs.Spelling.{WellFormed, text_of, line_text, head_lines, script_lines, address, max_count, kind_name, OneRegion, OneAsk, OneLook, OneSlot};
+ghost use Rattle.scenario_text.specs.InnerPrinting.{Adds, space_lines, table_lines};
 
 use crate::scenario::{Ask, Look, Scenario, Script, Slot};
 use gpi_values::{Source, World, gpi_name, space_name};
@@ -53,7 +55,7 @@ fn count_of_max(max: MaxBlock) -> u64
 
 /// Appends the lines on the format and the sizes of the space.
 fn space_lines(out: &mut String, setup: &Setup) -> Result<(), AllocError>
-    ensures { IfOk result (λ u. string_bytes out.new ≡ string_bytes out.old ++ flat_map line_text (Version 1 ∷ Space setup.now.gigabytes ∷ Max setup.now.max ∷ Locks setup.now.lock_blocks ∷ [])) }
+    ensures { IfOk result (λ u. Adds out.old (flat_map line_text (space_lines setup.now)) out.new) }
 {
     let gigabytes = setup.gigabytes();
     let max = count_of_max(setup.max());
@@ -66,7 +68,7 @@ fn space_lines(out: &mut String, setup: &Setup) -> Result<(), AllocError>
 
 /// Appends the lines on the generations, the walks that are kept and the tables.
 fn table_lines(out: &mut String, setup: &Setup) -> Result<(), AllocError>
-    ensures { IfOk result (λ u. string_bytes out.new ≡ string_bytes out.old ++ flat_map line_text (First setup.now.first ∷ Ring setup.now.ring ∷ Tables setup.now.tables ∷ Base setup.now.base ∷ [])) }
+    ensures { IfOk result (λ u. Adds out.old (flat_map line_text (table_lines setup.now)) out.new) }
 {
     let first = setup.first();
     let ring = setup.ring();
@@ -79,14 +81,14 @@ fn table_lines(out: &mut String, setup: &Setup) -> Result<(), AllocError>
 }
 
 fn head(out: &mut String, setup: &Setup) -> Result<(), AllocError>
-    ensures { IfOk result (λ u. string_bytes out.new ≡ string_bytes out.old ++ flat_map line_text (head_lines setup.now)) }
+    ensures { IfOk result (λ u. Adds out.old (flat_map line_text (head_lines setup.now)) out.new) }
 {
     space_lines(out, setup)?;
     table_lines(out, setup)
 }
 
 fn region_line(out: &mut String, region: &Region) -> Result<(), AllocError>
-    ensures { IfOk result (λ u. string_bytes out.new ≡ string_bytes out.old ++ line_text (OneRegion region.now)) }
+    ensures { IfOk result (λ u. Adds out.old (line_text (OneRegion region.now)) out.new) }
 {
     let base = region.base;
     let size = region.size;
@@ -96,7 +98,7 @@ fn region_line(out: &mut String, region: &Region) -> Result<(), AllocError>
 }
 
 fn region_lines(out: &mut String, regions: &[Region]) -> Result<(), AllocError>
-    ensures { IfOk result (λ u. string_bytes out.new ≡ string_bytes out.old ++ flat_map line_text (map OneRegion regions.now)) }
+    ensures { IfOk result (λ u. Adds out.old (flat_map line_text (map OneRegion regions.now)) out.new) }
 {
     for region in regions {
         region_line(out, region)?;
@@ -105,7 +107,7 @@ fn region_lines(out: &mut String, regions: &[Region]) -> Result<(), AllocError>
 }
 
 fn ask_line(out: &mut String, ask: &Ask) -> Result<(), AllocError>
-    ensures { IfOk result (λ u. string_bytes out.new ≡ string_bytes out.old ++ line_text (OneAsk ask.now)) }
+    ensures { IfOk result (λ u. Adds out.old (line_text (OneAsk ask.now)) out.new) }
 {
     match *ask {
         Ask::Delegate(pa, source) => call_line(out, "delegate", pa, source_name(source)),
@@ -117,13 +119,13 @@ fn ask_line(out: &mut String, ask: &Ask) -> Result<(), AllocError>
 
 /// Appends a line of a word, an address and a name.
 fn call_line(out: &mut String, word: &str, pa: u64, name: &str) -> Result<(), AllocError>
-    ensures { IfOk result (λ u. string_bytes out.new ≡ string_bytes out.old ++ (join_with_byte 32 (word.now ∷ address pa ∷ name.now ∷ []) ++ 10 ∷ [])) }
+    ensures { IfOk result (λ u. Adds out.old (line (word.now ∷ address pa ∷ name.now ∷ [])) out.new) }
 {
     write!(out, "{word} 0x{pa:x} {name}\n")
 }
 
 fn ask_lines(out: &mut String, asks: &[Ask]) -> Result<(), AllocError>
-    ensures { IfOk result (λ u. string_bytes out.new ≡ string_bytes out.old ++ flat_map line_text (map OneAsk asks.now)) }
+    ensures { IfOk result (λ u. Adds out.old (flat_map line_text (map OneAsk asks.now)) out.new) }
 {
     for ask in asks {
         ask_line(out, ask)?;
@@ -132,7 +134,7 @@ fn ask_lines(out: &mut String, asks: &[Ask]) -> Result<(), AllocError>
 }
 
 fn look_lines(out: &mut String, looks: &[Look]) -> Result<(), AllocError>
-    ensures { IfOk result (λ u. string_bytes out.new ≡ string_bytes out.old ++ flat_map line_text (map OneLook looks.now)) }
+    ensures { IfOk result (λ u. Adds out.old (flat_map line_text (map OneLook looks.now)) out.new) }
 {
     for look in looks {
         call_line(out, "look", look.pa, space_name(look.space))?;
@@ -141,7 +143,7 @@ fn look_lines(out: &mut String, looks: &[Look]) -> Result<(), AllocError>
 }
 
 fn section(out: &mut String, script: &Script) -> Result<(), AllocError>
-    ensures { IfOk result (λ u. string_bytes out.new ≡ string_bytes out.old ++ flat_map line_text (script_lines script.now)) }
+    ensures { IfOk result (λ u. Adds out.old (flat_map line_text (script_lines script.now)) out.new) }
 {
     match script {
         Script::Agent(asks) => {
@@ -156,7 +158,7 @@ fn section(out: &mut String, script: &Script) -> Result<(), AllocError>
 }
 
 fn sections(out: &mut String, scripts: &[Script]) -> Result<(), AllocError>
-    ensures { IfOk result (λ u. string_bytes out.new ≡ string_bytes out.old ++ flat_map line_text (flat_map script_lines scripts.now)) }
+    ensures { IfOk result (λ u. Adds out.old (flat_map line_text (flat_map script_lines scripts.now)) out.new) }
 {
     for script in scripts {
         section(out, script)?;
@@ -165,7 +167,7 @@ fn sections(out: &mut String, scripts: &[Script]) -> Result<(), AllocError>
 }
 
 fn slot_line(out: &mut String, slot: Slot) -> Result<(), AllocError>
-    ensures { IfOk result (λ u. string_bytes out.new ≡ string_bytes out.old ++ line_text (OneSlot slot)) }
+    ensures { IfOk result (λ u. Adds out.old (line_text (OneSlot slot)) out.new) }
 {
     match slot {
         Slot::Turn(caller, turns) => write!(out, "turn {caller} {turns}\n"),
@@ -174,7 +176,7 @@ fn slot_line(out: &mut String, slot: Slot) -> Result<(), AllocError>
 }
 
 fn slot_lines(out: &mut String, schedule: &[Slot]) -> Result<(), AllocError>
-    ensures { IfOk result (λ u. string_bytes out.new ≡ string_bytes out.old ++ flat_map line_text (map OneSlot schedule.now)) }
+    ensures { IfOk result (λ u. Adds out.old (flat_map line_text (map OneSlot schedule.now)) out.new) }
 {
     for slot in schedule {
         slot_line(out, *slot)?;

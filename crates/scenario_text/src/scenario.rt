@@ -1,8 +1,10 @@
 ghost use Rattle.std.specs.Prelude.{◌≡◌};
 ghost use Rattle.scenario_text.specs.declared.scenario.TextError.TheVariants.{Memory};
+ghost use Rattle.scenario_text.specs.Faults.{fault_of};
 
 use gpi_values::{Listed, Source, Space, World};
 use gpt_descriptors::Setup;
+use line_text::RowFault;
 use region_plan::Region;
 use std::alloc::AllocFailed;
 
@@ -47,24 +49,36 @@ pub enum Slot {
     Round(u32, u32),
 }
 
-/// What is wrong with the first bad line of a text. The first that holds, in this order, is told:
+/// What is wrong with the first bad line of a text. The first that holds, in this order, is reported:
 /// `End`, `After`, `Word`, `Limit` of callers, `Fields`, `Number` or `Value`, `Limit` of turns.
 #[derive(Clone, Copy, Debug, PartialEq, Eq)]
 pub enum Fault {
-    /// The first field isn't a word that may stand here.
+    /// The first field isn't a word that may come here.
     Word,
     /// The number of fields is wrong, or a field is empty.
     Fields,
-    /// A field should be a count or an address and isn't spelt as one.
+    /// A field should be a count or an address and isn't spelled as one.
     Number,
-    /// A field is spelt rightly and isn't in its range, or isn't one of its names.
+    /// A field is spelled rightly and isn't in its range, or isn't one of its names.
     Value,
     /// The input ends before this line's line feed, and the `end` line hasn't come.
     End,
-    /// A byte stands after the `end` line.
+    /// A byte comes after the `end` line.
     After,
     /// The line is the 33rd caller, or by it the turns pass 20,000,000.
     Limit,
+}
+
+impl From<RowFault> for Fault {
+    ghost from_gives = { λ row e. e ≡ fault_of row };
+
+    fn from(fault: RowFault) -> Fault {
+        match fault {
+            RowFault::Fields => Fault::Fields,
+            RowFault::Number => Fault::Number,
+            RowFault::Value => Fault::Value,
+        }
+    }
 }
 
 /// Why a text has no scenario.
@@ -72,7 +86,7 @@ pub enum Fault {
 pub enum TextError {
     /// The first bad line, counted from 1, and its fault.
     Line(u64, Fault),
-    /// Memory ran out.
+    /// Memory is exhausted.
     Memory,
 }
 

@@ -72,7 +72,7 @@ fn small(alloc: Global, agents: u64, pa: u64, schedule: &[Slot]) -> Result<Scena
 }
 
 #[test]
-fn good_scenarios_are_told_from_others(rt: HostRuntime) -> Result<(), Fail> {
+fn good_scenarios_are_kept_from_others(rt: HostRuntime) -> Result<(), Fail> {
     for (agents, pa, schedule, want) in CASES.iter() {
         let scenario = small(rt.alloc(), *agents, *pa, schedule.as_slice())?;
         assert_eq!(rt;

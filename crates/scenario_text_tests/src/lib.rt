@@ -6,6 +6,4 @@ mod formed;
 #[cfg(test)]
 mod lines;
 #[cfg(test)]
-mod numerals;
-#[cfg(test)]
 mod texts;

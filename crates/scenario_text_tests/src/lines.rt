@@ -1,4 +1,4 @@
-use scenario_text::{Fault, TextError, parse};
+use scenario_text::{Fault, TextError, parse, print};
 use std::alloc::Global;
 use std::test::Fail;
 
@@ -26,7 +26,7 @@ const LINES: [&str; 19] = [
 ];
 
 /// Lines at the ends of their ranges, each in its place.
-const GOOD: [(usize, &str); 21] = [
+const GOOD: [(usize, &str); 26] = [
     (2, "space 64"),
     (3, "max 0"),
     (3, "max 2"),
@@ -35,6 +35,7 @@ const GOOD: [(usize, &str); 21] = [
     (4, "locks 2"),
     (4, "locks 4"),
     (4, "locks 8"),
+    (5, "first 0"),
     (5, "first 9223372036854775807"),
     (6, "ring 1"),
     (6, "ring 64"),
@@ -43,16 +44,20 @@ const GOOD: [(usize, &str); 21] = [
     (8, "base 0x0"),
     (8, "base 0xffffffffffffffff"),
     (9, "region 0xffffffffffffffff 0x1 block any"),
+    (9, "region 0x0 0xffffffffffffffff granule none"),
     (9, "agent"),
+    (11, "delegate 0xffffffffffffffff secure"),
     (16, "cpu"),
+    (16, "look 0x0 nonsecure"),
+    (16, "look 0xffffffff secure"),
     (17, "turn 1 19999988"),
     (18, "round 1 9999997"),
     (18, "round 9999997 1"),
 ];
 
 /// Lines with a fault, each in the place of another line.
-const BAD: [(usize, &str, Fault); 91] = [
-    // The first field isn't a word that may stand here.
+const BAD: [(usize, &str, Fault); 96] = [
+    // The first field isn't a word that may come here.
     (1, "", Fault::Word),
     (1, "gpu 1", Fault::Word),
     (1, "Gpt 1", Fault::Word),
@@ -84,6 +89,10 @@ const BAD: [(usize, &str, Fault); 91] = [
     (9, "region 0x0 0x40000000 granule", Fault::Fields),
     (9, "region 0x0 0x40000000 granule secure x", Fault::Fields),
     (9, "region 0x0  granule secure", Fault::Fields),
+    (9, "region 0 1 granules", Fault::Fields),
+    (9, "region 0x0 0x1 granule ", Fault::Fields),
+    (16, "look 1 any x", Fault::Fields),
+    (17, "turn 2 0 x", Fault::Fields),
     (10, "agent x", Fault::Fields),
     (10, "agent ", Fault::Fields),
     (11, "delegate 0x40000000", Fault::Fields),
@@ -94,7 +103,7 @@ const BAD: [(usize, &str, Fault); 91] = [
     (17, "turn 0", Fault::Fields),
     (18, "round 2 3 2", Fault::Fields),
     (19, "end ", Fault::Fields),
-    // A field isn't spelt as a count or an address.
+    // A field isn't spelled as a count or an address.
     (1, "gpt 01", Fault::Number),
     (2, "space 0x4", Fault::Number),
     (2, "space +4", Fault::Number),
@@ -131,6 +140,7 @@ const BAD: [(usize, &str, Fault); 91] = [
     (9, "region 0x0 0x1 block Secure", Fault::Value),
     (11, "delegate 0x40000000 nonsecure", Fault::Value),
     (12, "undelegate 0x40000000 root", Fault::Value),
+    (13, "smc ringing 0x1000 realm", Fault::Value),
     (13, "smc look 1 realm", Fault::Value),
     (13, "smc delegate 0x1000 root", Fault::Value),
     (16, "look 0x100000000 root", Fault::Value),
@@ -172,17 +182,26 @@ fn error_with(alloc: Global, number: usize, other: &str) -> Result<Option<TextEr
     Ok(error_of(alloc, &text))
 }
 
+/// The text that is printed of what a text is read as; none where it has an error.
+fn printed(alloc: Global, text: &[u8]) -> Result<Vec<u8>, Fail> {
+    match parse(alloc, text) {
+        Ok(scenario) => Ok(print(alloc, &scenario)?),
+        Err(_) => Ok(Vec::new(alloc)),
+    }
+}
+
 #[test]
-fn lines_at_the_ends_of_their_ranges_are_read(rt: HostRuntime) -> Result<(), Fail> {
+fn lines_at_the_ends_of_their_ranges_are_read_and_printed(rt: HostRuntime) -> Result<(), Fail> {
     for (number, line) in GOOD.iter() {
-        let found = error_with(rt.alloc(), *number, line)?;
-        assert_eq!(rt; found, None, "{line}");
+        let text = text_with(rt.alloc(), *number, line)?;
+        assert_eq!(rt; error_of(rt.alloc(), &text), None, "{line}");
+        assert_eq!(rt; printed(rt.alloc(), &text)?, text, "{line}");
     }
     Ok(())
 }
 
 #[test]
-fn each_fault_is_told(rt: HostRuntime) -> Result<(), Fail> {
+fn each_fault_is_reported(rt: HostRuntime) -> Result<(), Fail> {
     for (number, line, fault) in BAD.iter() {
         let found = error_with(rt.alloc(), *number, line)?;
         let want = Some(TextError::Line(*number as u64, *fault));
@@ -192,7 +211,7 @@ fn each_fault_is_told(rt: HostRuntime) -> Result<(), Fail> {
 }
 
 #[test]
-fn a_front_of_a_text_ends_too_early(rt: HostRuntime) -> Result<(), Fail> {
+fn a_prefix_of_a_text_ends_too_early(rt: HostRuntime) -> Result<(), Fail> {
     let text = text_with(rt.alloc(), 0, "")?;
     let mut number = 1u64;
     for (len, byte) in text.iter().enumerate() {
@@ -217,10 +236,18 @@ tables 3
 base 0xc0000000
 ";
 
-/// What stands behind the first eight lines: a front, a line so many times, and a rest; and the error.
-const LONG: [(&str, &str, u64, &str, Option<TextError>); 13] = [
+/// What comes after the first eight lines: a prefix, a line n times, and a rest; and the error.
+const LONG: [(&str, &str, u64, &str, Option<TextError>); 19] = [
     // There are 32 callers at most.
     ("", "agent\n", 32, "end\n", None),
+    ("", "cpu\n", 32, "turn 31 1\nend\n", None),
+    (
+        "",
+        "cpu\n",
+        32,
+        "turn 32 1\n",
+        Some(TextError::Line(41, Fault::Value)),
+    ),
     (
         "",
         "agent\n",
@@ -258,9 +285,25 @@ const LONG: [(&str, &str, u64, &str, Option<TextError>); 13] = [
         "turn 0 1\n",
         Some(TextError::Line(10_010, Fault::Limit)),
     ),
+    ("cpu\n", "turn 0 20000000\n", 1, "end\n", None),
+    (
+        "cpu\n",
+        "turn 0 20000000\n",
+        1,
+        "turn 0 1\n",
+        Some(TextError::Line(11, Fault::Limit)),
+    ),
+    ("cpu\n", "round 20000000 1\n", 1, "end\n", None),
+    (
+        "cpu\ncpu\n",
+        "round 10000000 1\n",
+        1,
+        "round 1 1\n",
+        Some(TextError::Line(12, Fault::Limit)),
+    ),
     // Many lines.
     ("cpu\n", "look 0x1000 root\n", 100_000, "end\n", None),
-    // Nothing stands after the end.
+    // Nothing comes after the end.
     ("end\n", "", 0, "x", Some(TextError::Line(10, Fault::After))),
     (
         "end\n",
@@ -292,29 +335,39 @@ const LONG: [(&str, &str, u64, &str, Option<TextError>); 13] = [
     ),
 ];
 
-/// The error of the first eight lines, a front, a line so many times, and a rest.
-fn error_of_long(
+/// The first eight lines, a prefix, a line n times, and a rest.
+fn long_text(
     alloc: Global,
-    front: &str,
+    prefix: &str,
     line: &str,
     count: u64,
     rest: &str,
-) -> Result<Option<TextError>, Fail> {
+) -> Result<Vec<u8>, Fail> {
     let mut text = Vec::new(alloc);
     text.extend_from_slice(HEAD.as_bytes())?;
-    text.extend_from_slice(front.as_bytes())?;
+    text.extend_from_slice(prefix.as_bytes())?;
     for _ in 0..count {
         text.extend_from_slice(line.as_bytes())?;
     }
     text.extend_from_slice(rest.as_bytes())?;
-    Ok(error_of(alloc, &text))
+    Ok(text)
 }
 
 #[test]
 fn long_texts_and_ends_are_read(rt: HostRuntime) -> Result<(), Fail> {
-    for (front, line, count, rest, want) in LONG.iter() {
-        let found = error_of_long(rt.alloc(), front, line, *count, rest)?;
-        assert_eq!(rt; found, *want, "{line} and {rest}");
+    for (prefix, line, count, rest, want) in LONG.iter() {
+        let text = long_text(rt.alloc(), prefix, line, *count, rest)?;
+        assert_eq!(rt; error_of(rt.alloc(), &text), *want, "{line} and {rest}");
     }
+    Ok(())
+}
+
+#[test]
+fn a_text_of_the_greatest_length_is_read_and_printed(rt: HostRuntime) -> Result<(), Fail> {
+    let prefix = "cpu\nlook 0x10000 nonsecure\n";
+    let text = long_text(rt.alloc(), prefix, "look 0x1000 root\n", 61_675, "end\n")?;
+    assert_eq!(rt; text.len(), 1_048_576);
+    assert_eq!(rt; error_of(rt.alloc(), &text), None);
+    assert!(rt; printed(rt.alloc(), &text)? == text);
     Ok(())
 }

@@ -3,7 +3,12 @@ use std::alloc::Global;
 use std::test::Fail;
 
 /// Texts with each kind of line, each with what is read from it.
-const TEXTS: [(&str, &str); 3] = [(SMALL, SMALL_READ), (WIDE, WIDE_READ), (BARE, BARE_READ)];
+const TEXTS: [(&str, &str); 4] = [
+    (SMALL, SMALL_READ),
+    (WIDE, WIDE_READ),
+    (BARE, BARE_READ),
+    (DELEGATES_BETWEEN_LOOKS, DELEGATES_BETWEEN_LOOKS_READ),
+];
 
 const SMALL: &str = "\
 gpt 1
@@ -71,6 +76,36 @@ end
 
 const BARE_READ: &str =
     "Scenario { setup: Setup { gigabytes: 4, max: Zero, lock_blocks: 0, first: 0, ring: 1, tables: 0, base: 0 }, regions: Listed { items: [] }, scripts: Listed { items: [] }, schedule: Listed { items: [] } }";
+
+/// Two delegates, each between accesses to another granule of its block and to a granule of its own.
+const DELEGATES_BETWEEN_LOOKS: &str = "\
+gpt 1
+space 4
+max 512
+locks 1
+first 0
+ring 8
+tables 1
+base 0x80000000
+region 0x0 0x40000000 granule nonsecure
+agent
+delegate 0x10000000 realm
+delegate 0x10200000 realm
+cpu
+look 0x0 nonsecure
+look 0x0 nonsecure
+look 0x10001000 nonsecure
+look 0x10001000 nonsecure
+turn 1 8
+turn 0 8205
+turn 1 18
+turn 0 45
+turn 1 4
+end
+";
+
+const DELEGATES_BETWEEN_LOOKS_READ: &str =
+    "Scenario { setup: Setup { gigabytes: 4, max: FiveTwelve, lock_blocks: 1, first: 0, ring: 8, tables: 1, base: 2147483648 }, regions: Listed { items: [Region { base: 0, size: 1073741824, kind: Granule, gpi: NonSecure }] }, scripts: Listed { items: [Agent(Listed { items: [Delegate(268435456, Realm), Delegate(270532608, Realm)] }), Cpu(Listed { items: [Look { pa: 0, space: NonSecure }, Look { pa: 0, space: NonSecure }, Look { pa: 268439552, space: NonSecure }, Look { pa: 268439552, space: NonSecure }] })] }, schedule: Listed { items: [Turn(1, 8), Turn(0, 8205), Turn(1, 18), Turn(0, 45), Turn(1, 4)] } }";
 
 /// What is read from a text, and how it is printed again.
 fn again(alloc: Global, text: &str) -> Result<(String, Vec<u8>), Fail> {

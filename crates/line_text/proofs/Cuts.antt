@@ -1,0 +1,58 @@
+-- Where a list is cut the first time.
+use Rattle.std.proofs.Common.{◌≡◌, ℕ, cond, false, ap, ◌+◌, ◌-◌, ◌≤◌, Bool, ltb, List, [], ◌∷◌, length, take, drop, Some, None, refl, inl, inr, arith}
+use Rattle.std.specs.Prelude.{position, map, ◌==◌, not}
+use Rattle.std.specs.List.{slice_split, position_or_len}
+use Rattle.std.proofs.lemmas.Bool.{cases_Bool, ltb-true, ltb-false, ne_eqb}
+use Rattle.std.proofs.lemmas.List.{take_rest, length-map}
+use Rattle.std.proofs.lemmas.List.Splits.{slice_split_first}
+use Rattle.std.proofs.lemmas.Option.{same_Some}
+use Rattle.line_text.specs.Lines.{fields_in}
+use Rattle.line_text.proofs.Steps.{chosen}
+
+uncut : {X : Type 0} (p : X → Bool) (xs : List X) → length xs ≤ position_or_len p xs → slice_split p xs ≡ xs ∷ []
+uncut p [] le = refl
+uncut p (x ∷ xs) le =
+    elim (cases_Bool (p x)) [
+      | inl t ↦ absurd (let le_zero = rw t at le in omega arith)
+      | inr f ↦ let le_one = rw f at le in rw (f, uncut p xs (omega arith)) refl
+    ]
+
+pub cut_none : {X : Type 0} (p : X → Bool) (xs : List X) → position p xs ≡ None → slice_split p xs ≡ xs ∷ []
+cut_none p xs e =
+    elim (chosen (ltb (position_or_len p xs) (length xs)) (Some (position_or_len p xs)) None None e) [
+      | inl t ↦ absurd (let wrong = t.1 in cc)
+      | inr f ↦ uncut p xs (ltb-false _ _ f.0)
+    ]
+
+pub cut_some : (p : ℕ → Bool) (xs : List ℕ) (k : ℕ) → position p xs ≡ Some k → slice_split p xs ≡ take k xs ∷ slice_split p (take (length xs - (k + 1)) (drop (k + 1) xs))
+cut_some p xs k e =
+    elim (chosen (ltb (position_or_len p xs) (length xs)) (Some (position_or_len p xs)) None (Some k) e) [
+      | inl t ↦
+          let s : position_or_len p xs ≡ k = same_Some (position_or_len p xs) k t.1 in
+          let first : slice_split p xs ≡ take (position_or_len p xs) xs ∷ slice_split p (drop (position_or_len p xs + 1) xs) = slice_split_first p xs 0 (ltb-true _ _ t.0) in
+          rw (take_rest xs (k + 1), ← s) first
+      | inr f ↦ absurd (let wrong = f.1 in cc)
+    ]
+
+-- a list has at least one part
+pub some_part : {X : Type 0} (p : X → Bool) (xs : List X) → (part : List X) × ((parts : List (List X)) × (slice_split p xs ≡ part ∷ parts))
+some_part p [] = ([], ([], refl))
+some_part p (x ∷ xs) =
+    let rest = some_part p xs in
+    elim (cases_Bool (p x)) [
+      | inl t ↦ ([], (slice_split p xs, rw t refl))
+      | inr f ↦ (x ∷ rest.0, (rest.1.0, rw (f, rest.1.1) refl))
+    ]
+
+-- so bytes have at least one field
+pub some_field : (text : List ℕ) → (length (fields_in text) == 0) ≡ false
+some_field text = let some = some_part (λ c. c == 32) text in rw some.1.1 (ne_eqb _ 0 (λ e. omega arith))
+
+-- ---- places
+
+prefix_map : {X Y : Type 0} (p : Y → Bool) (f : X → Y) (xs : List X) → position_or_len p (map f xs) ≡ position_or_len (λ x. p (f x)) xs
+prefix_map p f [] = refl
+prefix_map p f (x ∷ xs) = ap (λ (n : ℕ). cond (not (p (f x))) (1 + n) 0) (prefix_map p f xs)
+
+pub position_map : {X Y : Type 0} (p : Y → Bool) (f : X → Y) (xs : List X) → position p (map f xs) ≡ position (λ x. p (f x)) xs
+position_map p f xs = rw (prefix_map p f xs, length-map xs f) refl
