@@ -37,8 +37,7 @@ trap 'rm -rf "$folder"' EXIT
 # if left out).
 head_text() {
     local i step=$((gigabyte / ${1:-1}))
-    printf '%s\n' 'gpt 1' 'space 4' 'max 0' 'locks 1' 'first 0' 'ring 8' 'tables 1' 'base 0xc0000000' \
-        'region 0xc0000000 0x40000000 block root'
+    printf '%s\n' 'gpt 1' 'space 4' 'max 0' 'locks 1' 'first 0' 'ring 8' 'tables 1' 'base 0x80000000'
     for ((i = 0; i < ${1:-1}; i++)); do
         printf 'region 0x%x 0x%x granule nonsecure\n' $((i * step)) "$step"
     done
