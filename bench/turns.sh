@@ -10,7 +10,7 @@
 #
 # A turn's time should be the same whatever the number of agents, of regions and of calls. Each line with
 # the word `ratio` says how many times as long a turn takes with many; where one is above 1.3, the status
-# is 1.
+# is 1. The last of these take a few milliseconds: run this where nothing else runs.
 #
 # One `round` line gives the agent that holds the lock as many turns as each that waits, and a holder
 # releases its lock within 13 turns. So it is the last one, and the line is one round: all others wait until
