@@ -1,11 +1,11 @@
 #!/bin/bash
 # parse.sh PROGRAM
 #
-# Times `PROGRAM tables` on texts of a quarter of a megabyte and of one megabyte: one kind has a
-# processor with many `look` lines, the other an agent and many `turn` lines. It prints for each text
-# the least wall time of some runs, that time for a megabyte, and the peak memory; and for each kind
-# the ratio of the time of the large text to that of the small one, which is 4 where time grows as
-# the text does. A megabyte is 1,000,000 bytes.
+# Times `PROGRAM tables` on texts of a quarter of a megabyte and of one megabyte: of a processor with
+# many `look` lines, of an agent with many `delegate` lines, and of an agent and many `turn` lines. It
+# prints for each text the least wall time of some runs, that time for a megabyte, and the peak memory;
+# and for each kind the ratio of the time of the large text to that of the small one, which is 4 where
+# time grows as the text does. Where it is above 6, the status is 1. A megabyte is 1,000,000 bytes.
 set -u
 export LC_ALL=C
 
@@ -17,12 +17,15 @@ program=$(realpath -- "$(command -v "$1")")
 scratch=$(mktemp -d) || exit 2
 trap 'rm -rf -- "$scratch"' EXIT
 runs=9
+most_ratio=6
+failed=0
 
-# The head, so many bytes of one line at most, and the end.
+# The head, one line again and again up to this number of bytes, and the end.
 text() { # KIND BYTES
     local section line
     case $1 in
         look) section=cpu line="look 0x200000 nonsecure" ;;
+        delegate) section=agent line="delegate 0x200000 realm" ;;
         turn) section=agent line="turn 0 7" ;;
     esac
     printf '%s\n' "gpt 1" "space 4" "max 512" "locks 1" "first 0" "ring 8" "tables 1" "base 0x80000000" \
@@ -76,8 +79,8 @@ peak() {
 
 thousandths() { printf '%d.%03d' $(($1 / 1000)) $(($1 % 1000)); }
 
-printf '%-6s %10s %12s %14s %12s\n' lines bytes ms "ms per MB" "peak KB"
-for kind in look turn; do
+printf '%-8s %10s %12s %14s %12s\n' lines bytes ms "ms per MB" "peak KB"
+for kind in look delegate turn; do
     times=()
     for size in 250000 1000000; do
         text "$kind" "$size" > "$scratch/text"
@@ -85,7 +88,9 @@ for kind in look turn; do
         time=$(least "$scratch/text") || exit 1
         memory=$(peak "$scratch/text")
         times+=("$time")
-        printf '%-6s %10d %12s %14s %12s\n' "$kind" "$length" "$(thousandths "$time")" "$(thousandths $((time * 1000000 / length)))" "$memory"
+        printf '%-8s %10d %12s %14s %12s\n' "$kind" "$length" "$(thousandths "$time")" "$(thousandths $((time * 1000000 / length)))" "$memory"
     done
-    echo "$kind: 1 MB takes $(thousandths $((times[1] * 1000 / times[0]))) times as long as 0.25 MB"
+    echo "$kind: 1 MB takes $(thousandths $((times[1] * 1000 / times[0]))) times as long as 0.25 MB, at most $most_ratio"
+    if [ "${times[1]}" -gt $((most_ratio * times[0])) ]; then failed=1; fi
 done
+exit "$failed"

@@ -1,16 +1,19 @@
 #!/usr/bin/env bash
 # Processor time of the turns that `PROGRAM play` plays: of an agent that waits at a held lock, of 2 and
-# of many agents that wait, and of agents that make whole transitions.
+# of many agents that wait, and of agents that make whole transitions, with few regions and calls and with
+# many.
 #
 #     bench/turns.sh PROGRAM [RUNS]
 #
 # Each time is that of the fastest of RUNS runs (5 if left out), less that of the same scenario with a
 # schedule of one turn, which is read and built alike. The scenarios that a table compares run by turns.
-# A turn's time should be the same whatever the number of agents: of 31 that wait it may be 1.3 times
-# that of 2.
+#
+# A turn's time should be the same whatever the number of agents, of regions and of calls. Each line with
+# the word `ratio` says how many times as long a turn takes with many; where one is above 1.3, the status
+# is 1. The last of these take a few milliseconds: run this where nothing else runs.
 #
 # One `round` line gives the agent that holds the lock as many turns as each that waits, and a holder
-# lets its lock go within 13 turns. So it stands last and the line is one round: all others wait until
+# releases its lock within 13 turns. So it is the last one, and the line is one round: all others wait until
 # it has its turns, which then are those of an agent that has ended. These are taken off at their price.
 set -euo pipefail
 export LC_ALL=C
@@ -23,18 +26,24 @@ readonly delegate_acts=10
 readonly undelegate_acts=14
 readonly pair_acts=$((delegate_acts + undelegate_acts))
 readonly most_ratio=1.3
+readonly gigabyte=$((1 << 30))
+failed=0
 
 folder=$(mktemp -d)
 readonly folder
 trap 'rm -rf "$folder"' EXIT
 
-# The head of a scenario, without contiguous entries.
+# The head of a scenario, without contiguous entries. The first gigabyte is Non-secure, in $1 equal regions (1
+# if left out).
 head_text() {
-    printf '%s\n' 'gpt 1' 'space 4' 'max 0' 'locks 1' 'first 0' 'ring 8' 'tables 1' 'base 0x80000000' \
-        'region 0x0 0x40000000 granule nonsecure'
+    local i step=$((gigabyte / ${1:-1}))
+    printf '%s\n' 'gpt 1' 'space 4' 'max 0' 'locks 1' 'first 0' 'ring 8' 'tables 1' 'base 0x80000000'
+    for ((i = 0; i < ${1:-1}; i++)); do
+        printf 'region 0x%x 0x%x granule nonsecure\n' $((i * step)) "$step"
+    done
 }
 
-# A scenario of so many agents ($1), each with one call at a granule of its own, below one lock.
+# A scenario of $1 agents, each with one call at a granule of its own, under one lock.
 short_agents() {
     local i
     head_text
@@ -43,10 +52,10 @@ short_agents() {
     done
 }
 
-# A scenario of so many agents ($1) with so many pairs each ($2), each at a granule of its own below one
-# lock, or all at the address $3 where there is one.
+# A scenario of $1 agents with $2 pairs each, each agent at a granule of its own under one lock, or all at
+# the address $3 where there is one; with $4 regions.
 pair_agents() {
-    head_text
+    head_text "${4:-1}"
     awk -v agents="$1" -v pairs="$2" -v same="${3:-}" 'BEGIN {
         for (i = 0; i < agents; i++) {
             print "agent"
@@ -99,10 +108,14 @@ row() {
         'BEGIN { printf "%-50s %10d %10.1f %8.2f\n", what, turns, time / 1e3, time * 1e3 / turns }'
 }
 
-# The ratio of the price of the turns of many to that of few: times and turns of both.
-ratio() {
-    awk -v many="$1" -v many_turns="$2" -v few="$3" -v few_turns="$4" \
-        'BEGIN { printf "%.2f", many / many_turns / (few / few_turns) }'
+# Compares the price of a turn of many with that of few: what is compared, times and turns of both. Too
+# high a ratio fails the bench.
+compare() {
+    awk -v what="$1" -v many="$2" -v many_turns="$3" -v few="$4" -v few_turns="$5" -v most="$most_ratio" 'BEGIN {
+        ratio = many / many_turns / (few / few_turns)
+        printf "%s: ratio %.2f of at most %s\n", what, ratio, most
+        exit ratio > most
+    }' || failed=1
 }
 
 # ---- one agent, and many that wait
@@ -131,7 +144,7 @@ row '2 agents wait, with the turns of the holder' $((3 * few)) "$few_time"
 row '2 agents wait, without them' $((2 * few)) "$few_alone"
 row '31 agents wait, with the turns of the holder' $((32 * many)) "$many_time"
 row '31 agents wait, without them' $((31 * many)) "$many_alone"
-echo "a turn of 31 that wait to one of 2: ratio $(ratio "$many_alone" $((31 * many)) "$few_alone" $((2 * few))) of at most $most_ratio"
+compare 'a turn of 31 that wait to one of 2' "$many_alone" $((31 * many)) "$few_alone" $((2 * few))
 
 # ---- whole transitions
 
@@ -153,7 +166,30 @@ row "1 agent, $one_pairs pairs" "$one_acts" $((one - one_one))
 row '  less as many lines "inval"' "$one_acts" $((one - one_refused))
 row "32 agents, $shared_pairs pairs each" "$shared_acts" $((shared - shared_one))
 row '  less as many lines "inval"' "$shared_acts" $((shared - shared_refused))
-row 'beside them: a turn that waits, as above' "$alone" $((again - again_one))
+row 'for comparison: a turn that waits, as above' "$alone" $((again - again_one))
+compare 'an act of 32 agents to one of 1 agent' "$((shared - shared_refused))" "$shared_acts" "$((one - one_refused))" "$one_acts"
+
+# ---- few and many regions and calls
+
+# One agent at the last granule of the last region, where a pair has 54 bytes and a region at most 45, with as
+# many pairs as an input has beside 256 regions, and with half of them.
+readonly last_granule=0x3ffff000
+readonly many_pairs=$(((most_bytes - 600 - 256 * 45) / 54)) few_pairs=$(((most_bytes - 600 - 256 * 45) / 54 / 2))
+for regions in 1 256; do
+    pair_agents 1 "$many_pairs" "$last_granule" "$regions" | scenario "regions$regions" "round $pair_acts $many_pairs"
+done
+pair_agents 1 "$few_pairs" "$last_granule" 1 | scenario calls "round $pair_acts $few_pairs"
+times=$(least regions1=0 regions1.one=6 regions256=0 regions256.one=6 calls=0 calls.one=6)
+read -r region1 region1_one region256 region256_one calls calls_one <<<"$times"
+
+echo
+heading 'whole transitions of 1 agent; with printing' acts 'time ms' 'ns/act'
+readonly many_acts=$((many_pairs * pair_acts)) few_acts=$((few_pairs * pair_acts))
+row "$many_pairs pairs, 1 region" "$many_acts" $((region1 - region1_one))
+row "$many_pairs pairs, 256 regions" "$many_acts" $((region256 - region256_one))
+row "$few_pairs pairs, 1 region" "$few_acts" $((calls - calls_one))
+compare 'an act with 256 regions to one with 1' $((region256 - region256_one)) "$many_acts" $((region1 - region1_one)) "$many_acts"
+compare 'an act with twice the calls' $((region1 - region1_one)) "$many_acts" $((calls - calls_one)) "$few_acts"
 
 # ---- one acts and the rest wait
 
@@ -172,3 +208,5 @@ echo
 heading 'one acts and the rest wait; with printing' turns 'time ms' 'ns/turn'
 row "2 agents, $two_pairs pairs each" $((2 * two_rounds)) $((two - two_one))
 row "32 agents, $all_pairs pairs each" $((32 * all_rounds)) $((all - all_one))
+
+exit "$failed"

@@ -41,7 +41,7 @@ fn source(alloc: Global, text: &[u8], failing: u64) -> Result<MemorySource, Allo
     Ok(MemorySource::new(text.to_vec(alloc)?, vec![in alloc; failing]?))
 }
 
-/// A sink that takes at most ten bytes in a write and so many in all, and whose write of this number
+/// A sink that takes at most ten bytes in a write and `room` in all, and whose write of this number
 /// fails, counted from 1; for 0 none fails.
 fn sink(alloc: Global, room: usize, failing: u64) -> Result<MemorySink, AllocError> {
     MemorySink::new(alloc, 10, room, vec![in alloc; failing]?)

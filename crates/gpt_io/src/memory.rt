@@ -95,7 +95,7 @@ impl Source for MemorySource {
     }
 }
 
-/// Whether the call after so many is one of those that fail.
+/// Whether the call after this number of calls is one of those that fail.
 fn fails_next(failing: &[u64], calls: u64) -> bool
     ensures { IsTrue result ↔ Contains failing.now (calls + 1) }
 {
@@ -104,8 +104,8 @@ fn fails_next(failing: &[u64], calls: u64) -> bool
         .any(|number| *number > calls && *number - calls == 1)
 }
 
-/// A sink over memory that takes so much at a time, so much in all, and whose writes fail at chosen
-/// numbers.
+/// A sink over memory that takes a limited number of bytes in a write and in all, and whose writes
+/// fail at chosen numbers.
 #[derive(Debug, Drop)]
 pub struct MemorySink {
     bytes: Vec<u8>,

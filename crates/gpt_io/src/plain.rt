@@ -48,7 +48,7 @@ impl Source for PlainSource {
     }
 }
 
-/// Copies as many bytes as the piece takes and are left to its front, and answers how many.
+/// Copies to the start of the piece as many bytes as it takes and are left, and answers how many.
 pub(crate) fn fill(piece: &mut [u8], left: &[u8]) -> usize
     ensures count { result ≡ min (length piece.new) (length left.now) }
     ensures bytes { take result piece.new ≡ take result left.now }
@@ -58,8 +58,8 @@ pub(crate) fn fill(piece: &mut [u8], left: &[u8]) -> usize
     n
 }
 
-/// A sink that counts the bytes it is given and keeps none. Contracts see the count, which stands
-/// still at the last value of a `u64`.
+/// A sink that counts the bytes it is given and keeps none. Contracts see the count, which stays
+/// at the last value of a `u64`.
 #[derive(Debug, Drop)]
 pub struct PlainSink {
     count: u64,

@@ -6,14 +6,14 @@ use crate::source::Failed;
 
 /// A writer of bytes that counts its faults.
 ///
-/// `held` is what was taken so far, where the sink tells it. `faults` is how many writes have
+/// `held` is what was taken so far, where the sink reports it. `faults` is how many writes have
 /// failed; it never falls.
 pub trait Sink {
     ghost held: { Self → Option (List ℕ) };
 
     ghost faults: { Self → ℕ };
 
-    /// Takes one byte or more from the front of a piece that isn't empty, and answers how many.
+    /// Takes one byte or more from the start of a piece that isn't empty, and answers how many.
     ///
     /// `Failed` comes only where the count of faults rose in this call. Nothing was taken then. A
     /// device that takes no byte has failed.

@@ -8,14 +8,14 @@ pub struct Failed;
 
 /// A reader of bytes that counts its faults.
 ///
-/// `left` is what is still to come, where the source tells it. `faults` is how many reads have
+/// `left` is what is still to come, where the source reports it. `faults` is how many reads have
 /// failed; it never falls.
 pub trait Source {
     ghost left: { Self → Option (List ℕ) };
 
     ghost faults: { Self → ℕ };
 
-    /// Reads into the front of a piece that isn't empty, and answers how many bytes it read. They
+    /// Reads into the start of a piece that isn't empty, and answers how many bytes it read. They
     /// are the first that were left; 0 comes only at the end.
     ///
     /// `Failed` comes only where the count of faults rose in this call. Nothing was read then.

@@ -28,7 +28,7 @@ fn next_write<K: Sink>(sink: &mut K, piece: &[u8]) -> Option<usize>
 }
 
 #[test]
-fn a_source_fails_at_the_numbers_it_is_told(rt: HostRuntime) -> Result<(), Fail> {
+fn a_source_fails_at_the_numbers_it_is_given(rt: HostRuntime) -> Result<(), Fail> {
     let table = [
         (0, [Some(4), Some(4), Some(2), Some(0), Some(0)], 0),
         (1, [None, Some(4), Some(4), Some(2), Some(0)], 1),
@@ -54,7 +54,7 @@ fn a_source_fails_at_the_numbers_it_is_told(rt: HostRuntime) -> Result<(), Fail>
 }
 
 #[test]
-fn a_sink_fails_at_the_numbers_it_is_told_and_when_full(rt: HostRuntime) -> Result<(), Fail> {
+fn a_sink_fails_at_the_numbers_it_is_given_and_when_full(rt: HostRuntime) -> Result<(), Fail> {
     let table = [
         (0, 8, [Some(3), Some(3), Some(2), None], 1, "01201201"),
         (1, 8, [None, Some(3), Some(3), Some(2)], 1, "01201201"),
@@ -226,4 +226,50 @@ fn bytes_pass_through_a_reader_and_a_writer(rt: HostRuntime) -> Result<(), Fail>
     assert_eq!(rt; sink.faults(), 0);
     assert_eq!(rt; written.as_slice(), b"abcde".as_slice());
     Ok(())
+}
+
+/// A writer that takes four bytes at a time and passes none on before it is flushed. Its flushes fail
+/// once it is broken.
+#[derive(Drop)]
+struct Buffering {
+    waiting: usize,
+    passed_on: usize,
+    is_broken: bool,
+}
+
+impl Write for Buffering {
+    fn write(&mut self, piece: &[u8]) -> io::Result<usize> {
+        let n = piece.len().min(4);
+        self.waiting = self.waiting.saturating_add(n);
+        Ok(n)
+    }
+
+    fn flush(&mut self) -> io::Result<()> {
+        if self.is_broken {
+            return Err(io::Error::from(ErrorKind::Other));
+        }
+        self.passed_on = self.passed_on.saturating_add(self.waiting);
+        self.waiting = 0;
+        Ok(())
+    }
+}
+
+#[test]
+fn each_write_is_flushed_before_it_is_answered(rt: HostRuntime) {
+    let mut device = Buffering {
+        waiting: 0,
+        passed_on: 0,
+        is_broken: false,
+    };
+    for passed_on in [4usize, 8, 12] {
+        let mut sink = StdSink::new(&mut device);
+        assert_eq!(rt; next_write(&mut sink, TEXT), Some(4));
+        assert_eq!(rt; sink.faults(), 0);
+        assert_eq!(rt; (device.waiting, device.passed_on), (0, passed_on));
+    }
+    device.is_broken = true;
+    let mut sink = StdSink::new(&mut device);
+    assert_eq!(rt; next_write(&mut sink, TEXT), None);
+    assert_eq!(rt; sink.faults(), 1);
+    assert_eq!(rt; (device.waiting, device.passed_on), (4, 12));
 }

@@ -5,7 +5,7 @@ ghost use Rattle.gpt_io.specs.Counts.{Rose};
 use gpt_io::{Failed, Source};
 use std::alloc::{AllocError, Global};
 
-/// The most bytes that an input has; one more is read, to tell a longer input.
+/// The most bytes that an input has; one more is read, to recognize a longer input.
 pub const INPUT_LIMIT: usize = 1_048_576;
 
 /// The most bytes that one read asks for.
@@ -20,7 +20,7 @@ pub enum InputError {
     Memory,
 }
 
-/// Reads to the end, which a read of 0 bytes tells, or to `INPUT_LIMIT + 1` bytes. Each read asks
+/// Reads to the end, which a read of 0 bytes means, or to `INPUT_LIMIT + 1` bytes. Each read asks
 /// for at most `PIECE` bytes, and for none past that limit.
 ///
 /// `Fault` comes at the first read that fails, and `Memory` where the bytes of a read that did not

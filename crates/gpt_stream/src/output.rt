@@ -7,7 +7,7 @@ use gpt_io::{Failed, Sink};
 
 /// Offers a text until all of it is taken; each write is offered all that isn't taken yet. Answers
 /// whether the text was taken whole; where it wasn't, a write failed and what was taken is a proper
-/// front of the text. It takes no memory.
+/// prefix of the text. It takes no memory.
 #[tactic(auto, using(crate::proofs::Known::Appends_at))]
 pub fn deliver<K: Sink>(sink: &mut K, text: &[u8]) -> bool
     ensures whole { OnTrue result (Appends (K.held sink.old) (K.held sink.new) text.now) }

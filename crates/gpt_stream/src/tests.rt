@@ -23,7 +23,7 @@ impl Source for Trickle {
 
 #[test]
 fn a_failed_read_is_a_fault_wherever_it_comes(rt: HostRuntime) -> Result<(), Fail> {
-    // Ten bytes, three at a time: four reads give bytes, and the fifth tells the end.
+    // Ten bytes, three at a time: four reads give bytes, and the fifth is the end.
     for failing in 1..=5u64 {
         let source = MemorySource::new(TEXT.to_vec(rt.alloc())?, vec![in rt.alloc(); failing]?);
         let mut source = Trickle(source);

@@ -10,7 +10,7 @@ use std::process::Abort;
 use std::test::Fail;
 use table_build::{Plan, build};
 
-/// A setup of 4 GB with so many tables, and its largest block.
+/// A setup of 4 GB with this number of tables, and this largest contiguous size.
 fn setup_with(rt: &impl Abort, max: MaxBlock, tables: u64) -> Setup {
     Setup::new(4, max, 1, 0, 8, tables, 0x8000_0000).expect(rt, "tables in range")
 }
@@ -51,7 +51,7 @@ fn one_gigabyte_is_one_run_of_the_largest_block(rt: HostRuntime) -> Result<(), F
 }
 
 #[test]
-fn runs_are_told_one_by_one_and_table_by_table(rt: HostRuntime) -> Result<(), Fail> {
+fn runs_are_reported_one_by_one_and_table_by_table(rt: HostRuntime) -> Result<(), Fail> {
     let one = region(0x1000, 0x1000, Kind::Granule, Gpi::Realm);
     let half = region(0, 0x10_0000, Kind::Granule, Gpi::Secure);
     let other_half = region(0x10_0000, 0x10_0000, Kind::Granule, Gpi::Secure);
@@ -279,7 +279,7 @@ fn fits(scenario: &Scenario, outcome: &Outcome) -> bool
 }
 
 #[test]
-fn a_run_is_told_call_by_call_and_word_by_word(rt: HostRuntime) -> Result<(), Fail> {
+fn a_run_is_reported_call_by_call_and_word_by_word(rt: HostRuntime) -> Result<(), Fail> {
     let alloc = rt.alloc();
     let scenario = parse(alloc, SCENARIO.as_bytes()).ok().ok_or("a scenario")?;
     let l0 = [0xf1, 0x8000_0003, 0xf1, 0xf1];
@@ -315,5 +315,96 @@ fn a_run_is_told_call_by_call_and_word_by_word(rt: HostRuntime) -> Result<(), Fa
     }
     let state = state_lines(alloc, &outcome.geometry, outcome.words.as_slice())?;
     assert_eq!(rt; state.as_slice(), STATE_LINES.as_bytes());
+    Ok(())
+}
+
+/// The L0 words of the last 16 gigabytes of 64, each with a table.
+const LAST_TABLES: [u64; 16] = [
+    0x8000_0003,
+    0x8002_0003,
+    0x8004_0003,
+    0x8006_0003,
+    0x8008_0003,
+    0x800a_0003,
+    0x800c_0003,
+    0x800e_0003,
+    0x8010_0003,
+    0x8012_0003,
+    0x8014_0003,
+    0x8016_0003,
+    0x8018_0003,
+    0x801a_0003,
+    0x801c_0003,
+    0x801e_0003,
+];
+
+const LAST_LINES: &str = "held 127\n\
+    l0 0 48 0xf1\n\
+    l0 48 1 0x80000003\n\
+    l0 49 1 0x80020003\n\
+    l0 50 1 0x80040003\n\
+    l0 51 1 0x80060003\n\
+    l0 52 1 0x80080003\n\
+    l0 53 1 0x800a0003\n\
+    l0 54 1 0x800c0003\n\
+    l0 55 1 0x800e0003\n\
+    l0 56 1 0x80100003\n\
+    l0 57 1 0x80120003\n\
+    l0 58 1 0x80140003\n\
+    l0 59 1 0x80160003\n\
+    l0 60 1 0x80180003\n\
+    l0 61 1 0x801a0003\n\
+    l0 62 1 0x801c0003\n\
+    l0 63 1 0x801e0003\n\
+    l1 0 0 16384 0x0\n\
+    l1 1 0 16384 0x0\n\
+    l1 2 0 16384 0x0\n\
+    l1 3 0 16384 0x0\n\
+    l1 4 0 16384 0x0\n\
+    l1 5 0 16384 0x0\n\
+    l1 6 0 16384 0x0\n\
+    l1 7 0 16384 0x0\n\
+    l1 8 0 16384 0x0\n\
+    l1 9 0 16384 0x0\n\
+    l1 10 0 16384 0x0\n\
+    l1 11 0 16384 0x0\n\
+    l1 12 0 16384 0x0\n\
+    l1 13 0 16384 0x0\n\
+    l1 14 0 16384 0x0\n\
+    l1 15 0 16383 0x0\n\
+    l1 15 16383 1 0xffffffffffffffff\n\
+    gen 2m 32767 7\n\
+    gen 32m 2047 8\n\
+    gen 512m 127 9223372036854775807\n\
+    line 0xffffff000 realm\n";
+
+#[test]
+fn the_last_words_of_the_largest_geometry_are_reported(rt: HostRuntime) -> Result<(), Fail> {
+    let alloc = rt.alloc();
+    let setup = Setup::new(64, MaxBlock::Zero, 1, 0, 64, 16, 0x8000_0000).ok_or("a setup")?;
+    let mut l0 = vec![in alloc; 0xf1u64; 48]?;
+    l0.extend_from_slice(&LAST_TABLES)?;
+    assert!(rt; l0_good(&setup, l0.as_slice()));
+    let geometry = Geometry::new(setup, 32, l0.as_slice());
+    assert_eq!(rt; geometry.words(), 559_266);
+    let mut words = vec![in alloc; 0u64; geometry.words()]?;
+    // A lock, a generation of each size, a duty word, which no line shows, an L1 word and a line word: the last of each.
+    let last = [
+        (1usize, 0x8000_0000_0000_0000u64),
+        (32_769, 7),
+        (34_817, 8),
+        (34_945, 9_223_372_036_854_775_807),
+        (34_977, 1),
+        (297_121, 0xffff_ffff_ffff_ffff),
+        (559_265, 0x8000_0000_0000_0000),
+    ];
+    for (place, value) in last {
+        if let Some(word) = words.get_mut(place) {
+            *word = value;
+        }
+    }
+    assert_eq!(rt; words.len(), geometry.words());
+    let state = state_lines(alloc, &geometry, words.as_slice())?;
+    assert_eq!(rt; state.as_slice(), LAST_LINES.as_bytes());
     Ok(())
 }
