@@ -4,12 +4,12 @@ use Rattle.history.specs.declared.outcome.Outcome.{Outcome}
 use Rattle.core_machine.specs.InnerPlay.{played_trace}
 use Rattle.core_machine.specs.Run.{IsRun}
 use Rattle.gpt_cli.specs.Replies.{played_reply}
-use Rattle.gpt_cli.proofs.AcceptedLemmas.{outcome_fits, with_any}
+use Rattle.gpt_cli.proofs.AcceptedLemmas.{with_any}
 use Rattle.gpt_cli.proofs.accepted.reply_of_play.Goals as goal
 
 pub reply_of_outcome-requires : goal.reply_of_outcome-requires
 reply_of_outcome-requires c =
-    outcome_fits c.args.scenario.now c.in_ok-outcome.outcome c.in_ok-outcome.ensures.answered c.in_ok-outcome.ensures.size
+    record { answers = c.in_ok-outcome.ensures.answered; words = c.in_ok-outcome.ensures.size }
 
 pub returns-clause-reply : goal.returns-clause-reply
 returns-clause-reply c =
