@@ -12,6 +12,7 @@ use Rattle.shared_words.specs.Acts.{answer_of}
 use Rattle.scenario_text.specs.declared.scenario.Scenario.{Scenario}
 use Rattle.scenario_text.specs.declared.scenario.Script.{Script}
 use Rattle.scenario_text.specs.declared.scenario.Script.TheVariants as script
+use Rattle.scenario_text.specs.Calls.{calls_of as calls_in, AreAnswersOf}
 use Rattle.history.specs.declared.call.Task.{Task}
 use Rattle.history.specs.declared.entry.Entry.{Entry}
 use Rattle.history.specs.declared.outcome.Outcome.{Outcome}
@@ -23,7 +24,7 @@ use Rattle.core_machine.specs.declared.caller.Caller.TheVariants as caller
 use Rattle.core_machine.specs.InnerCallers.{caller_next, caller_took, caller_answers}
 use Rattle.core_machine.specs.InnerInvariant.{IsMade}
 use Rattle.core_machine.specs.InnerMachine.{MachineData, StandsFor, after_act_of, after_turn_of, after_turn, after_turns}
-use Rattle.core_machine.specs.InnerPlay.{caller_of, opening_of, played, outcome_of, calls_in, AreAnswersOf}
+use Rattle.core_machine.specs.InnerPlay.{caller_of, opening_of, played, outcome_of}
 use Rattle.core_machine.proofs.LawLemmas.{took_leaves}
 use Rattle.core_machine.specs.Scenarios.{geometry_of, task_of_ask, turns_in}
 

@@ -1,11 +1,12 @@
 -- What callers leave fits a history: over plain data, with no scenario and no schedule.
-use Rattle.std.specs.Prelude.{◌≡◌, ◌⊎◌, ℕ, ◌+◌, ◌*◌, ◌<◌, Bool, true, false, ◌&&◌, ◌==◌, List, ◌∷◌, ◌++◌, length, take, drop, slice_index, Some, None}
+use Rattle.std.specs.Prelude.{◌≡◌, ◌⊎◌, ℕ, ◌+◌, ◌*◌, ◌<◌, Bool, true, false, ◌&&◌, ◌==◌, List, ◌∷◌, ◌++◌, length, slice_index, Some, None}
 use Rattle.std.specs.List.{All, list_any}
 use Rattle.gpi_values.specs.declared.gpi.Gpi.{Gpi}
 use Rattle.gpt_descriptors.specs.declared.size.Size.{Size}
 use Rattle.gpt_descriptors.specs.declared.size.MaxBlock.TheVariants as most
 use Rattle.gpt_descriptors.specs.Sizes.{SetupData, granule_bytes, size_bytes}
-use Rattle.gpt_descriptors.specs.Places.{GeometryData, Generation, Duty, Level1, Line, place_of, l0_words, l1_words, blocks_in_region, word_count}
+use Rattle.gpt_descriptors.specs.Places.{GeometryData, Duty, Line, place_of, l0_words, l1_words, blocks_in_region, word_count}
+pub use Rattle.gpt_descriptors.specs.Places.{table_part, generation_word}
 use Rattle.table_meaning.specs.Meaning.{TablesMean, AreCanonical}
 use Rattle.bit_locks.specs.Locks.{lock_number, lock_bit}
 use Rattle.history.specs.declared.call.Task.{Task}
@@ -61,15 +62,6 @@ AreWorn g tasks answers h =
     (before after : List Entry) (c k granule : ℕ) (found : Gpi) (t : Task) → h ≡ before ++ entry.Refused c k granule found ∷ after
     → task_at tasks c k ≡ Some t → answer_at answers c k ≡ None → needed t ≡ Some found
     → (z : Size) × (value : ℕ) × IsCounted g c k t (answer.Worn z value) h
-
--- ---- words
-
--- the L1 words of all tables among the shared words
-abbrev pub table_part : GeometryData → List ℕ → List ℕ
-table_part g words = take (l1_words g) (drop (place_of g (Level1 0)) words)
-
-abbrev pub generation_word : GeometryData → List ℕ → Size → ℕ → ℕ
-generation_word g words y region = slice_index words (place_of g (Generation y region))
 
 -- ---- the whole
 

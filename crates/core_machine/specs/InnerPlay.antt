@@ -1,12 +1,11 @@
 -- A scenario's callers, its machine before the first act, and what its turns leave.
-use Rattle.std.specs.Prelude.{◌≡◌, ℕ, ◌<◌, ◌≤◌, List, [], ◌∷◌, length, map}
+use Rattle.std.specs.Prelude.{ℕ, ◌<◌, List, length, map}
 use Rattle.gpt_descriptors.specs.Places.{GeometryData}
 use Rattle.scenario_text.specs.declared.scenario.Scenario.{Scenario}
 use Rattle.scenario_text.specs.declared.scenario.Script.{Script}
 use Rattle.scenario_text.specs.declared.scenario.Script.TheVariants as script
 use Rattle.scenario_text.specs.declared.scenario.Slot.{Slot}
 use Rattle.scenario_text.specs.declared.scenario.Slot.TheVariants as slot
-use Rattle.history.specs.declared.call.Answer.{Answer}
 use Rattle.history.specs.declared.outcome.Outcome.{Outcome}
 use Rattle.delegate_ops.specs.Agents.{fresh}
 use Rattle.core_machine.specs.declared.caller.Caller.{Caller}
@@ -41,16 +40,3 @@ outcome_of m = record { geometry = m.geometry; answers = map caller_answers m.ca
 abbrev pub NamesCaller : ℕ → Slot → Type 0
 NamesCaller n (slot.Turn c turns) = c < n
 NamesCaller n (slot.Round turns times) = Unit {0}
-
--- ---- answers of a scenario
-
--- the number of calls of a script
-abbrev pub calls_in : Script → ℕ
-calls_in (script.Agent asks) = length asks
-calls_in (script.Cpu looks) = length looks
-
--- a list of answers for each script, none longer than its calls
-abbrev pub AreAnswersOf : List Script → List (List Answer) → Type 0
-AreAnswersOf [] [] = Unit {0}
-AreAnswersOf (s ∷ scripts) (own ∷ answers) = (length own ≤ calls_in s) × AreAnswersOf scripts answers
-AreAnswersOf scripts answers = ⊥

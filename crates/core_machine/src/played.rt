@@ -1,10 +1,11 @@
 ghost use Rattle.std.specs.Prelude.{◌≡◌, [], IfOk, length, map, count_by};
 ghost use Rattle.gpt_descriptors.specs.Places.{IsGeometry, word_count};
 ghost use Rattle.scenario_text.specs.Spelling.{WellFormed};
+ghost use Rattle.scenario_text.specs.Calls.{AreAnswersOf};
 ghost use Rattle.table_build.specs.Built.{tables_of};
 ghost use Rattle.core_machine.specs.InnerCallers.{caller_answers};
 ghost use Rattle.core_machine.specs.InnerMachine.{StandsFor};
-ghost use Rattle.core_machine.specs.InnerPlay.{opening_of, played, outcome_of, AreAnswersOf, played_trace};
+ghost use Rattle.core_machine.specs.InnerPlay.{opening_of, played, outcome_of, played_trace};
 ghost use Rattle.core_machine.specs.Scenarios.{IsAccepted, first_map, geometry_of, is_cpu};
 ghost use Rattle.core_machine.specs.Run.{IsRun};
 

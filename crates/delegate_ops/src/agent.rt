@@ -322,6 +322,14 @@ impl Agent {
         self.answers.as_slice()
     }
 
+    /// The answers, in the order of the tasks. They are moved, not copied.
+    pub fn into_answers(self) -> Vec<Answer>
+        ensures { result.items ≡ self.answers }
+    {
+        let Agent { answers, .. } = self;
+        answers
+    }
+
     /// The number of tasks without an answer.
     pub fn left(&self) -> u64
         ensures { result ≡ length self.now.tasks - length self.now.answers }

@@ -3,13 +3,14 @@ use Rattle.std.specs.Prelude.{◌≡◌, ℕ, Bool, false, ◌||◌, List, [], �
 use Rattle.scenario_text.specs.declared.scenario.Scenario.{Scenario}
 use Rattle.scenario_text.specs.declared.scenario.Script.{Script}
 use Rattle.scenario_text.specs.Spelling.{WellFormed, text_of}
+use Rattle.scenario_text.specs.Calls.{calls_of}
 use Rattle.scenario_text.specs.Faults.{first_bad}
 use Rattle.region_plan.specs.declared.refusing.PlanError.{PlanError}
 use Rattle.region_plan.specs.Refusals.{refusal}
 use Rattle.table_build.specs.Built.{tables_of, is_bad_base}
 use Rattle.report_text.specs.TablesText.{report_of_tables}
 use Rattle.report_text.specs.declared.run.Mode.TheVariants as mode
-use Rattle.report_text.specs.RunText.{script_calls, report_of_run}
+use Rattle.report_text.specs.RunText.{report_of_run}
 use Rattle.history.specs.declared.call.Answer.{Answer}
 use Rattle.history.specs.declared.outcome.Outcome.{Outcome}
 use Rattle.core_machine.specs.InnerPlay.{played, outcome_of}
@@ -34,8 +35,8 @@ usage = record { status = 2; text = usage_text }
 -- a call has no answer
 abbrev pub has_left : List Script → List (List Answer) → Bool
 has_left [] answers = false
-has_left (s ∷ scripts) [] = nat_lt 0 (length (script_calls s)) || has_left scripts []
-has_left (s ∷ scripts) (own ∷ answers) = nat_lt (length own) (length (script_calls s)) || has_left scripts answers
+has_left (s ∷ scripts) [] = nat_lt 0 (calls_of s) || has_left scripts []
+has_left (s ∷ scripts) (own ∷ answers) = nat_lt (length own) (calls_of s) || has_left scripts answers
 
 -- The report of what a run left, with status 6 exactly where a call has no answer.
 abbrev pub played_reply : Scenario → Outcome → Reply

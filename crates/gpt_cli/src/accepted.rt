@@ -3,10 +3,11 @@ ghost use Rattle.scenario_text.specs.Spelling.{WellFormed};
 ghost use Rattle.table_build.specs.Built.{tables_of};
 ghost use Rattle.report_text.specs.RunText.{FitsScenario};
 ghost use Rattle.report_text.specs.TablesText.{report_of_tables};
-ghost use Rattle.core_machine.specs.InnerPlay.{IsAccepted, played, outcome_of};
+ghost use Rattle.core_machine.specs.InnerPlay.{played, outcome_of};
 ghost use Rattle.gpt_cli.specs.Upheld.{Upholds};
 ghost use Rattle.gpt_cli.specs.Replies.{done, has_left, played_reply, accepted_reply};
 ghost use Rattle.gpt_cli.specs.declared.command.Command.TheVariants.{Play as the_play};
+ghost use Rattle.core_machine.specs.Scenarios.{IsAccepted};
 
 use crate::command::Command;
 use crate::reply::Reply;

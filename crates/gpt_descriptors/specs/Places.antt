@@ -67,6 +67,14 @@ place_of g (Line i) = 2 + 546 * g.setup.gigabytes + g.cpus + l1_words g + i
 abbrev pub word_count : GeometryData → ℕ
 word_count g = 2 + 546 * g.setup.gigabytes + g.cpus + 2 * l1_words g
 
+-- the L1 words of all tables among the shared words
+abbrev pub table_part : GeometryData → List ℕ → List ℕ
+table_part g words = take (l1_words g) (drop (place_of g (Level1 0)) words)
+
+-- the generation of a block of this size, counted from 0
+abbrev pub generation_word : GeometryData → List ℕ → Size → ℕ → ℕ
+generation_word g words size block = slice_index words (place_of g (Generation size block))
+
 -- the place of the generation of the block of this size around an address
 abbrev pub gen_place_of : GeometryData → Size → ℕ → ℕ
 gen_place_of g size pa = place_of g (Generation size (pa / size_bytes size))

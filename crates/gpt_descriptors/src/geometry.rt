@@ -208,8 +208,9 @@ impl Geometry {
         (table - setup.base()) / 8 + word % setup.table_words()
     }
 
-    /// The number of the L1 word of an address among all L1 words.
-    fn l1_index(&self, pa: u64) -> Option<u64>
+    /// The number of the L1 word of an address among the L1 words of all tables, or `None` exactly where its
+    /// L0 entry is a block.
+    pub fn l1_index(&self, pa: u64) -> Option<u64>
         requires { pa < space_bytes self.now.setup }
         ensures value { result ≡ l1_index_of self.now pa }
         ensures within { IfSome result (λ i. i < l1_words self.now) }

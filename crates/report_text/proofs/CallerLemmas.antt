@@ -7,7 +7,8 @@ use Rattle.history.specs.declared.call.Answer.{Answer}
 use Rattle.scenario_text.specs.declared.scenario.Script.{Script}
 use Rattle.scenario_text.specs.declared.scenario.Script.TheVariants as script
 use Rattle.scenario_text.specs.declared.scenario.Look.{Look}
-use Rattle.report_text.specs.RunText.{script_calls, call_line, answers_text, caller_text, callers_text, left_line, left_text, AreAnswersOf}
+use Rattle.scenario_text.specs.Calls.{calls_of, AreAnswersOf}
+use Rattle.report_text.specs.RunText.{script_calls, call_line, answers_text, caller_text, callers_text, left_line, left_text}
 
 -- no answers are left
 pub answers_text-none : (c k : ℕ) (calls : List Bool) → answers_text c k calls [] ≡ []
@@ -22,7 +23,7 @@ answers_length (s ∷ scripts) [] are = absurd are
 answers_length (s ∷ scripts) (own ∷ answers) are = ap suc (answers_length scripts answers are.1)
 
 pub own_short : (scripts : List Script) (answers : List (List Answer)) (k : ℕ) (s : Script) (own : List Answer) → AreAnswersOf scripts answers
-    → k < length scripts → s ≡ get_or scripts k s → own ≡ get_or answers k own → length own ≤ length (script_calls s)
+    → k < length scripts → s ≡ get_or scripts k s → own ≡ get_or answers k own → length own ≤ calls_of s
 own_short [] [] k s own are lt es eo = absurd (omega arith)
 own_short [] (other ∷ answers) k s own are lt es eo = absurd are
 own_short (t ∷ scripts) [] k s own are lt es eo = absurd are
@@ -37,7 +38,7 @@ pub from_get_or : {X : Type 0} (xs : List X) (k : ℕ) (x : X) → k < length xs
 from_get_or {X = X} xs k x lt e = drop_more xs k x lt ∙ ap (λ (y : X). y ∷ drop (k + 1) xs) (sym e)
 
 -- an access doesn't come through the monitor
-pub look_call : (looks : List Look) (k : ℕ) → k < length (map (λ (look : Look). false) looks) → slice_get (map (λ (look : Look). false) looks) k ≡ Some false
+pub look_call : (looks : List Look) (k : ℕ) → k < length looks → slice_get (map (λ (look : Look). false) looks) k ≡ Some false
 look_call [] k lt = absurd (omega arith)
 look_call (look ∷ looks) zero lt = refl
 look_call (look ∷ looks) (suc k) lt = look_call looks k (omega arith)
@@ -75,7 +76,7 @@ caller_moves k scripts answers s own out all next lt es are eo e added =
     part_moves out _ _ all next (ap (λ (t : List ℕ). out ++ t) (sym here) ∙ e) added
 
 pub left_moves : (k : ℕ) (scripts : List Script) (answers : List (List Answer)) (s : Script) (own : List Answer) (n : ℕ) (out all next : List ℕ)
-    → k < length scripts → s ≡ get_or scripts k s → AreAnswersOf scripts answers → own ≡ get_or answers k own → n ≡ length (script_calls s) - length own
+    → k < length scripts → s ≡ get_or scripts k s → AreAnswersOf scripts answers → own ≡ get_or answers k own → n ≡ calls_of s - length own
     → out ++ left_text k (drop k scripts) (drop k answers) ≡ all → next ≡ out ++ left_line k n
     → next ++ left_text (k + 1) (drop (k + 1) scripts) (drop (k + 1) answers) ≡ all
 left_moves k scripts answers s own n out all next lt es are eo en e added =
@@ -86,7 +87,7 @@ left_moves k scripts answers s own n out all next lt es are eo en e added =
     ∙ ap (λ (m : ℕ). left_line k m ++ left_text (k + 1) (drop (k + 1) scripts) (drop (k + 1) answers)) (sym en)) in
     part_moves out _ _ all next (ap (λ (t : List ℕ). out ++ t) (sym here) ∙ e) added
 
-pub cpu_call : (s : Script) (looks : List Look) (k : ℕ) → s ≡ script.Cpu looks → k < length (script_calls s) → slice_get (script_calls s) k ≡ Some false
+pub cpu_call : (s : Script) (looks : List Look) (k : ℕ) → s ≡ script.Cpu looks → k < calls_of s → slice_get (script_calls s) k ≡ Some false
 cpu_call s looks k e lt = rw e (look_call looks k (rw e at lt))
 
 -- what is lent is the entry itself
@@ -107,7 +108,7 @@ one_told k scripts lent_scripts answers lent_answers s x own text es ea is ix e 
 
 pub one_short : (k : ℕ) (scripts lent_scripts : List Script) (answers lent_answers : List (List Answer)) (s : Script) (x own : List Answer)
     → lent_scripts ≡ scripts → lent_answers ≡ answers → s ≡ get_or lent_scripts k s → x ≡ get_or lent_answers k x → own ≡ x
-    → AreAnswersOf scripts answers → k < length scripts → length own ≤ length (script_calls s)
+    → AreAnswersOf scripts answers → k < length scripts → length own ≤ calls_of s
 one_short k scripts lent_scripts answers lent_answers s x own es ea is ix e are lt =
     own_short scripts answers k s own are lt (is ∙ ap (λ (l : List Script). get_or l k s) es)
     (lent_own answers k x own (ix ∙ ap (λ (l : List (List Answer)). get_or l k x) ea) e)

@@ -12,7 +12,7 @@ use Rattle.gpt_descriptors.specs.declared.size.Size.TheVariants as size
 use Rattle.gpt_descriptors.specs.declared.size.Reach.{Reach}
 use Rattle.gpt_descriptors.specs.declared.size.Reach.TheVariants as reach
 use Rattle.gpt_descriptors.specs.Sizes.{granule_bytes, space_granules}
-use Rattle.gpt_descriptors.specs.Places.{GeometryData, Generation, Level1, place_of, l0_words, l1_words, blocks_in_region, line_place_of, word_count}
+use Rattle.gpt_descriptors.specs.Places.{GeometryData, l0_words, blocks_in_region, line_place_of, word_count, table_part, generation_word}
 use Rattle.bit_locks.specs.Locks.{lock_bit}
 use Rattle.history.specs.declared.call.Answer.{Answer}
 use Rattle.history.specs.declared.call.Answer.TheVariants as answer
@@ -27,6 +27,7 @@ use Rattle.scenario_text.specs.declared.scenario.Script.TheVariants as script
 use Rattle.scenario_text.specs.declared.scenario.Ask.{Ask}
 use Rattle.scenario_text.specs.declared.scenario.Ask.TheVariants as ask
 use Rattle.line_text.specs.Lines.{count, address}
+use Rattle.scenario_text.specs.Calls.{calls_of, AreAnswersOf}
 use Rattle.report_text.specs.declared.run.Mode.{Mode}
 use Rattle.report_text.specs.declared.run.Mode.TheVariants as mode
 use Rattle.report_text.specs.TablesText.{line, words_text, report_line, end_line}
@@ -119,7 +120,7 @@ abbrev pub left_text : ℕ → List Script → List (List Answer) → List ℕ
 left_text c [] answers = []
 left_text c (s ∷ scripts) [] = []
 left_text c (s ∷ scripts) (own ∷ answers) =
-    left_line c (length (script_calls s) - length own) ++ left_text (c + 1) scripts answers
+    left_line c (calls_of s - length own) ++ left_text (c + 1) scripts answers
 
 -- ---- the shared words
 
@@ -130,21 +131,14 @@ held_line words n = if lock_bit words n == 1 then line (codes "held" ∷ count n
 abbrev pub held_text : List ℕ → List ℕ
 held_text words = flat_map (held_line words) (range_with_len 0 128)
 
--- the L1 words among the shared words
-abbrev pub table_part : GeometryData → List ℕ → List ℕ
-table_part g words = take (l1_words g) (drop (place_of g (Level1 0)) words)
-
 abbrev pub tables_part_text : GeometryData → List ℕ → List ℕ
 tables_part_text g words = words_text (record { setup = g.setup; l0 = l0_words g; l1 = table_part g words })
 
 -- the generations that aren't the first one, the smallest size first
-abbrev pub generation_at : GeometryData → List ℕ → Size → ℕ → ℕ
-generation_at g words z block = slice_index words (place_of g (Generation z block))
-
 abbrev pub generation_line : GeometryData → List ℕ → Size → ℕ → List ℕ
 generation_line g words z block =
-    if generation_at g words z block == g.setup.first then []
-    else line (codes "gen" ∷ size_name z ∷ count block ∷ count (generation_at g words z block) ∷ [])
+    if generation_word g words z block == g.setup.first then []
+    else line (codes "gen" ∷ size_name z ∷ count block ∷ count (generation_word g words z block) ∷ [])
 
 abbrev pub generations_text : GeometryData → List ℕ → Size → List ℕ
 generations_text g words z = flat_map (generation_line g words z) (range_with_len 0 (blocks_in_region z * g.setup.gigabytes))
@@ -185,12 +179,7 @@ state_text g words =
 
 -- ---- the whole report
 
--- an outcome of a scenario: a list of answers for each script, none longer than the script, and all words
-abbrev pub AreAnswersOf : List Script → List (List Answer) → Type 0
-AreAnswersOf [] [] = Unit {0}
-AreAnswersOf (s ∷ scripts) (own ∷ answers) = (length own ≤ length (script_calls s)) × AreAnswersOf scripts answers
-AreAnswersOf scripts answers = ⊥
-
+-- an outcome of a scenario: a list of answers for each script, none longer than its calls, and all words
 pub record FitsScenario (s : Scenario) (o : Outcome) : Type 0 where
   pub answers : AreAnswersOf s.scripts o.answers
   pub words : length o.words ≡ word_count o.geometry

@@ -1,5 +1,6 @@
 ghost use Rattle.std.specs.Prelude.{◌≡◌, ◌≤◌, ◌<◌, ◌-◌, ◌++◌, OnOk, Some, string_bytes, length, slice_get};
-ghost use Rattle.report_text.specs.RunText.{script_calls, caller_text, callers_text, left_line, left_text, AreAnswersOf};
+ghost use Rattle.scenario_text.specs.Calls.{calls_of, AreAnswersOf};
+ghost use Rattle.report_text.specs.RunText.{script_calls, caller_text, callers_text, left_line, left_text};
 
 use crate::answers::push_call;
 use gpi_values::Listed;
@@ -9,7 +10,7 @@ use std::alloc::AllocError;
 
 /// The number of calls of a script.
 pub fn call_count(script: &Script) -> usize
-    ensures { result ≡ length (script_calls script.now) }
+    ensures { result ≡ calls_of script.now }
 {
     match script {
         Script::Agent(asks) => asks.as_slice().len(),
@@ -19,7 +20,7 @@ pub fn call_count(script: &Script) -> usize
 
 /// Whether a call comes through the monitor.
 fn is_monitor_call(script: &Script, call: usize) -> bool
-    requires { call < length (script_calls script.now) }
+    requires { call < calls_of script.now }
     ensures { slice_get (script_calls script.now) call ≡ Some result }
 {
     match script {
@@ -38,7 +39,7 @@ pub fn push_caller(
     script: &Script,
     answers: &[Answer],
 ) -> Result<(), AllocError>
-    requires { length answers.now ≤ length (script_calls script.now) }
+    requires { length answers.now ≤ calls_of script.now }
     ensures { OnOk result (string_bytes out.new ≡ string_bytes out.old ++ caller_text caller script.now answers.now) }
 {
     for k in 0..answers.len() {

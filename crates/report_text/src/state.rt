@@ -1,7 +1,7 @@
 ghost use Rattle.std.specs.Prelude.{◌≡◌, ◌+◌, ◌*◌, ◌/◌, ◌<◌, ◌≤◌, ◌^◌, ◌++◌, OnOk, Some, string_bytes, length};
 ghost use Rattle.gpt_descriptors.specs.Sizes.{region_bytes, table_words};
-ghost use Rattle.gpt_descriptors.specs.Places.{Generation, blocks_in_region, line_place_of, place_of, word_count};
-ghost use Rattle.report_text.specs.RunText.{held_line, table_part, tables_part_text, generations_text, lines_text, state_text};
+ghost use Rattle.gpt_descriptors.specs.Places.{Generation, blocks_in_region, line_place_of, place_of, word_count, table_part};
+ghost use Rattle.report_text.specs.RunText.{held_line, tables_part_text, generations_text, lines_text, state_text};
 ghost use Rattle.report_text.specs.RunParts.{changed_line, set_line, set_lines, word_lines, granules_text, held_upto};
 
 use crate::answers::name_of_size;

@@ -1,4 +1,5 @@
 pub mod Spelling
+pub mod Calls
 pub mod Faults
 pub mod InnerReading
 pub mod InnerDrafts

@@ -109,6 +109,13 @@ impl Splitting {
         self.made += 1;
     }
 
+    /// The GPI of the block.
+    pub fn gpi(&self) -> Gpi
+        ensures { result ≡ self.now.gpi }
+    {
+        self.gpi
+    }
+
     /// Whether all stores were made.
     pub fn is_over(&self) -> bool
         ensures { result ≡ not (nat_lt self.now.made self.now.words) }

@@ -1,16 +1,15 @@
 use Rattle.std.proofs.Common.{◌≡◌, subst}
 use Rattle.std.specs.Prelude.{IfOk}
 use Rattle.history.specs.declared.outcome.Outcome.{Outcome}
-use Rattle.core_machine.proofs.PlayLemmas.{always}
-use Rattle.gpt_cli.specs.declared.command.Command.TheVariants as command
-use Rattle.gpt_cli.specs.Upheld.{Upholds}
+use Rattle.core_machine.specs.InnerPlay.{played_trace}
+use Rattle.core_machine.specs.Run.{IsRun}
 use Rattle.gpt_cli.specs.Replies.{played_reply}
-use Rattle.gpt_cli.proofs.AcceptedLemmas.{outcome_fits}
+use Rattle.gpt_cli.proofs.AcceptedLemmas.{with_any}
 use Rattle.gpt_cli.proofs.accepted.reply_of_play.Goals as goal
 
 pub reply_of_outcome-requires : goal.reply_of_outcome-requires
 reply_of_outcome-requires c =
-    outcome_fits c.args.scenario.now c.in_ok-outcome.outcome c.in_ok-outcome.ensures.answered c.in_ok-outcome.ensures.size
+    record { answers = c.in_ok-outcome.ensures.answered; words = c.in_ok-outcome.ensures.size }
 
 pub returns-clause-reply : goal.returns-clause-reply
 returns-clause-reply c =
@@ -19,4 +18,4 @@ returns-clause-reply c =
 
 pub returns-clause-upholds : goal.returns-clause-upholds
 returns-clause-upholds c =
-    always (Upholds command.Play c.args.scenario.now) c.reply_of_outcome.result (λ accepted. c.in_ok-outcome.ensures.tells)
+    with_any c.reply_of_outcome.result (λ accepted. subst (λ (o : Outcome). IsRun c.args.scenario.now o (played_trace c.args.scenario.now)) c.in_ok-outcome.ensures.trace c.in_ok-outcome.ensures.run)
