@@ -1,5 +1,5 @@
 ghost use Rattle.std.specs.Prelude.{◌≡◌, ◌+◌, ◌*◌, ◌^◌, ◌<◌, IfOk};
-ghost use Rattle.shatter.specs.Splitting.{SplittingData, split_word, splitting_stores};
+ghost use Rattle.shatter.specs.Splitting.{split_word, started, splitting_stores};
 
 use gpi_values::Gpi;
 use gpt_descriptors::{L1Entry, Size, encode_l1, granules_of};
@@ -31,7 +31,7 @@ pub fn slow_stores(
 ) -> Result<Vec<Act>, AllocError>
     requires room { first + words < 2 ^ 64 }
     requires two { (0 < two) × (16 * two < 2 ^ 64) }
-    ensures { IfOk result (λ acts. acts.items ≡ splitting_stores (record { first = first; own = own; gpi = gpi; made = 0; words = words; two = two })) }
+    ensures { IfOk result (λ acts. acts.items ≡ splitting_stores (started first own gpi words two)) }
 {
     let mut acts = Vec::new(alloc);
     for j in 0..words {
