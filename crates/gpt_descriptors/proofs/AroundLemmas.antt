@@ -1,5 +1,5 @@
 -- One L1 word: which blocks around it may be one entry, the largest of them, and the canonical word by it. What
--- stands apart, if anything does, is a granule; all that is said of canonical words is said by these lemmas.
+-- is apart, if anything is, is a granule; all that is said of canonical words is said by these lemmas.
 use Rattle.std.proofs.Common.{◌≡◌, ◌≢◌, ℕ, ◌+◌, ◌*◌, ◌/◌, ◌^◌, ◌<◌, Bool, true, false, cond, ◌&&◌, Option, Some, None, refl, sym, ap, ◌∙◌, subst, arith}
 use Rattle.std.proofs.lemmas.Bool.{and_parts, eq-eqb, ne_eqb}
 use Rattle.gpi_values.specs.declared.gpi.Gpi.{Gpi}
@@ -190,7 +190,7 @@ granules_by : (m : ℕ → Gpi) (w : ℕ) (o : Option Size) (word : ℕ) → ent
 granules_by m w None word e = refl
 granules_by m w (Some y) word e = absurd cc
 
--- a contiguous word tells the largest size and the GPI
+-- a contiguous word says the largest size and the GPI
 pub contiguous_found : (s : SetupData) (m : ℕ → Gpi) (a : Option ℕ) (w : ℕ) (z : Size) (gpi : Gpi) → l1_entry (canonical_word s m a w) ≡ Some (l1.Contig z gpi)
     → (largest_block s m a w ≡ Some z) × (m (16 * w) ≡ gpi)
 contiguous_found s m a w z gpi read =

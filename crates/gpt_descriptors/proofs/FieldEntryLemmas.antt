@@ -20,7 +20,7 @@ use Rattle.gpt_descriptors.specs.Fields.{with_field, is_granules_entry, is_granu
 at_place : (x v p rest : ℕ) → v < 16 → rest < p → ((x * 16 + v) * p + rest) / p % 16 ≡ v
 at_place x v p rest low below = ap (λ (n : ℕ). n % 16) (div-mul-add (x * 16 + v) p rest below) ∙ mod-mul-add x 16 v low
 
--- a field below p stays, whatever stands from p on
+-- a field below p stays, whatever is from p on
 below_place : (a p r q rest : ℕ) → 0 < r → p ≡ r * (16 * q) → (a * p + rest) / r % 16 ≡ rest / r % 16
 below_place a p r q rest some e =
     let turned : a * p ≡ a * q * 16 * r = ap (λ (n : ℕ). a * n) e ∙ grind arith in

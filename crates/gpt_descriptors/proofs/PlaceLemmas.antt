@@ -30,7 +30,7 @@ count_step : (b : Bool) (k n : ℕ) → cond b (k + 1) k + n ≡ k + (cond b 1 0
 count_step true k n = omega arith
 count_step false k n = omega arith
 
--- the table of an entry is the one behind as many tables as stand before
+-- the table of an entry is the one after as many tables as there are before it
 pub table_at : (s : SetupData) (k : ℕ) (words : List ℕ) (r address : ℕ) → are_entries_good s k words ≡ true → r < length words
     → l0_entry (get_or words r 0) ≡ Some (l0.Table address)
     → (k + table_count (take r words) < s.tables) × (address ≡ s.base + (k + table_count (take r words)) * table_bytes s)
@@ -38,9 +38,9 @@ table_at s k [] r address good lt e = absurd (omega arith)
 table_at s k (w ∷ ws) zero address good lt e =
     let own : is_entry_good s k (Some (l0.Table address)) ≡ true =
     subst (λ (o : Option L0Entry). is_entry_good s k o ≡ true) e (and_parts _ _ good).0 in
-    let front = and_parts _ _ (and_parts _ _ (and_parts _ _ own).0).0 in
+    let lower = and_parts _ _ (and_parts _ _ (and_parts _ _ own).0).0 in
     let none : k + 0 ≡ k = add-zero k in
-    subst (λ (n : ℕ). (n < s.tables) × (address ≡ s.base + n * table_bytes s)) (sym none) (ltb-true _ _ front.0, eqb-true _ _ front.1)
+    subst (λ (n : ℕ). (n < s.tables) × (address ≡ s.base + n * table_bytes s)) (sym none) (ltb-true _ _ lower.0, eqb-true _ _ lower.1)
 table_at s k (w ∷ ws) (suc r) address good lt e =
     subst (λ (n : ℕ). (n < s.tables) × (address ≡ s.base + n * table_bytes s))
     (count_step (is_table w) k (table_count (take r ws)) ∙ ap (λ (n : ℕ). k + n) (sym (count_first w (take r ws))))
@@ -133,12 +133,12 @@ l1_index_within s words w i e =
     subst (λ (n : ℕ). n < table_count words * table_words s) parts.1
     (subst (λ (n : ℕ). table_count (take (w / table_words s) words) * table_words s + w % table_words s < n) turned fits)
 
--- the words of a region stand for its bytes
+-- the words of a region cover its bytes
 pub region_of_word : (s : SetupData) (pa : ℕ) → pa / word_bytes s / table_words s ≡ pa / region_bytes
 region_of_word s pa =
     div-div-eq-div-mul pa (word_bytes s) (table_words s) ∙ ap (λ (n : ℕ). pa / n) (mul_comm (word_bytes s) (table_words s) ∙ table_whole s)
 
--- where the L1 word of an address stands, by its region
+-- the index of the L1 word of an address, by its region
 pub l1_index_at : (s : SetupData) (words : List ℕ) (pa : ℕ) → l1_index s words (pa / word_bytes s)
     ≡ cond (is_table (get_or words (pa / region_bytes) 0)) (Some (table_count (take (pa / region_bytes) words) * table_words s + pa / word_bytes s % table_words s)) None
 l1_index_at s words pa =
@@ -146,7 +146,7 @@ l1_index_at s words pa =
 
 -- ---- each word has a place of its own
 
--- the word that stands at a place
+-- the word at a place
 unfoldable pub name_at : GeometryData → ℕ → WordName
 name_at g p =
     cond (ltb p 2) (Lock p)
@@ -240,7 +240,7 @@ l0_known g pa is lt = entry_known g.setup 0 (l0_words g) (pa / region_bytes) (ge
 pub geometry_tables : (g : GeometryData) → IsGeometry g → g.l1_tables ≤ 16
 geometry_tables g is = omega (arith, is.tables, tables_bounded g.setup 0 (l0_words g) (geometry_entries g is) (omega arith), is.setup.tables)
 
--- the tables stand in a row from the base on, so the address of a table tells how many words stand before it
+-- the tables follow one another from the base on, so the address of a table says how many words are before it
 words_before : (base count words address : ℕ) → address ≡ base + count * (8 * words) → (base ≤ address) × ((address - base) / 8 ≡ count * words)
 words_before base count words address e =
     let turned : count * (8 * words) ≡ 8 * (count * words) = omega (arith, mul_left_comm count 8 words) in

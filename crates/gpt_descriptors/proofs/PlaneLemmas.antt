@@ -1,4 +1,4 @@
--- Sixteen fields tested at once: the lowest bit of each tells whether it is a GPI.
+-- Sixteen fields tested at once: the lowest bit of each says whether it is a GPI.
 use Rattle.std.proofs.Common.{◌≡◌, ◌≢◌, ℕ, ◌+◌, ◌-◌, ◌*◌, ◌/◌, ◌%◌, ◌^◌, ◌<◌, Bool, true, false, not, cond, eqb, min, max, refl, sym, ap, ◌∙◌, subst, arith, inl, inr}
 use Rattle.std.specs.Prelude.{is_some}
 use Rattle.std.specs.Int.{bit_at, bit_not, w64}

@@ -23,7 +23,7 @@ unfoldable pub is_one_block : SetupData → (ℕ → Gpi) → Size → ℕ → B
 is_one_block s m size b =
     is_permitted s.max size && one_gpi m (16 * (b * words_of s size)) (16 * words_of s size)
 
--- a block counts where it doesn't hold the granule that stands apart, if there is one
+-- a block counts where it doesn't hold the granule apart, if there is one
 abbrev pub counts : Option ℕ → ℕ → ℕ → Bool
 counts None n b = true
 counts (Some g) n b = not (g / 16 / n == b)
@@ -41,7 +41,7 @@ abbrev pub canonical_with : (ℕ → Gpi) → ℕ → Option Size → ℕ
 canonical_with m w (Some size) = l1_word (l1.Contig size (m (16 * w)))
 canonical_with m w None = packed m (16 * w) 16
 
--- The canonical word at w. With a granule that stands apart only the blocks that don't hold it count.
+-- The canonical word at w. With a granule apart only the blocks that don't hold it count.
 unfoldable pub canonical_word : SetupData → (ℕ → Gpi) → Option ℕ → ℕ → ℕ
 canonical_word s m apart w = canonical_with m w (largest_block s m apart w)
 

@@ -22,7 +22,7 @@ is_entry_good s k (Some (l0.Table address)) =
     nat_lt k s.tables && (address == s.base + k * table_bytes s)
     && (address % table_bytes s == 0) && nat_le (address + table_bytes s) (2 ^ 52)
 
--- the entries, of which k tables stand before
+-- the entries, after k tables
 abbrev pub are_entries_good : SetupData → ℕ → List ℕ → Bool
 are_entries_good s k [] = true
 are_entries_good s k (word ∷ words) =
@@ -35,7 +35,7 @@ is_l0_good s words = (length words == s.gigabytes) && are_entries_good s 0 words
 abbrev pub table_count : List ℕ → ℕ
 table_count words = count_by is_table words
 
--- where the L1 word with number w stands among the words of all L1 tables; none below an L0 block
+-- the index of the L1 word with number w among the words of all L1 tables; none below an L0 block
 abbrev pub l1_index : SetupData → List ℕ → ℕ → Option ℕ
 l1_index s words w =
     if is_table (slice_index words (w / table_words s))

@@ -79,7 +79,7 @@ generation_word g words size block = slice_index words (place_of g (Generation s
 abbrev pub gen_place_of : GeometryData → Size → ℕ → ℕ
 gen_place_of g size pa = place_of g (Generation size (pa / size_bytes size))
 
--- where the L1 word of an address stands among the L1 words
+-- the index of the L1 word of an address among the L1 words
 abbrev pub l1_index_of : GeometryData → ℕ → Option ℕ
 l1_index_of g pa = l1_index g.setup (l0_words g) (pa / word_bytes g.setup)
 
@@ -99,6 +99,6 @@ block_gpi_in (Some (l0.Block gpi)) = Some gpi
 block_gpi_in (Some (l0.Table address)) = None
 block_gpi_in None = None
 
--- the GPI of the L0 block around an address; none where a table stands there
+-- the GPI of the L0 block around an address; none where it is a table
 abbrev pub block_gpi_of : GeometryData → ℕ → Option Gpi
 block_gpi_of g pa = block_gpi_in (l0_entry (l0_word_of g pa))

@@ -1,6 +1,6 @@
 -- The setup of a protected space, and the sizes in it (DDI 0487, granule protection tables: the fields
 -- PGS, PPS and L0GPTSZ of GPCCR_EL3 for the bytes of a granule, of the protected space and of what one
--- level 0 entry stands for).
+-- level 0 entry covers).
 use Rattle.std.specs.Prelude.{◌≡◌, ℕ, ◌-◌, ◌*◌, ◌/◌, ◌%◌, ◌^◌, ◌≤◌, ◌⊎◌, Bool, true, false, nat_lt}
 use Rattle.gpt_descriptors.specs.declared.size.Size.{Size}
 use Rattle.gpt_descriptors.specs.declared.size.Size.TheVariants as size
@@ -66,7 +66,7 @@ size_bytes size.Two = 2 ^ 21
 size_bytes size.ThirtyTwo = 2 ^ 25
 size_bytes size.FiveTwelve = 2 ^ 29
 
--- bytes of what one L0 entry stands for: 1 GB, L0GPTSZ of 30 bits
+-- bytes that one L0 entry covers: 1 GB, L0GPTSZ of 30 bits
 abbrev pub region_bytes : ℕ
 region_bytes = 2 ^ 30
 
@@ -78,7 +78,7 @@ small_granule = 4096
 unfoldable pub granule_bytes : SetupData → ℕ
 granule_bytes s = small_granule
 
--- bytes that one L1 word stands for: sixteen granules
+-- bytes that one L1 word covers: sixteen granules
 unfoldable pub word_bytes : SetupData → ℕ
 word_bytes s = 16 * granule_bytes s
 

@@ -5,7 +5,7 @@ ghost use Rattle.gpt_descriptors.specs.Entries.{l0_entry};
 use crate::entry::{L0Entry, decode_l0};
 use crate::setting::Setup;
 
-/// Whether this L0 word may stand after `k` table entries.
+/// Whether this L0 word may follow `k` table entries.
 fn entry_good(setup: &Setup, k: u64, word: u64) -> bool
     requires { k ≤ 64 }
     ensures { result ≡ is_entry_good setup.now k (l0_entry word) }
@@ -17,7 +17,7 @@ fn entry_good(setup: &Setup, k: u64, word: u64) -> bool
     }
 }
 
-/// Whether a table at this address may be the one that stands after `k` others.
+/// Whether a table at this address may be the one after `k` others.
 fn table_good(setup: &Setup, k: u64, address: u64) -> bool
     requires { k ≤ 64 }
     ensures { result ≡ is_entry_good setup.now k (Some (L0Entry.Table address)) }

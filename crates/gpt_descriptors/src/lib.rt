@@ -2,7 +2,7 @@
 //! the places of the words that agents and processors share.
 //!
 //! Source: Arm Architecture Reference Manual (DDI 0487), granule protection tables, GPT level 0 and level
-//! 1 descriptors; names of TF-A's `gpt_rme` stand beside what they mirror. The places are this project's
+//! 1 descriptors; names of TF-A's `gpt_rme` are given beside what they mirror. The places are this project's
 //! own. No call takes memory.
 #![tactic(auto)]
 

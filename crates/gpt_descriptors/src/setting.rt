@@ -4,7 +4,7 @@ ghost use Rattle.gpt_descriptors.specs.Sizes.{small_granule, IsSpaceSize, IsLock
 use crate::size::{GEN_LAST, MaxBlock, Size};
 use std::marker::Model;
 
-/// Bytes of what one L0 entry stands for: 1 GB, the field L0GPTSZ of GPCCR_EL3 at 30 bits.
+/// Bytes that one L0 entry covers: 1 GB, the field L0GPTSZ of GPCCR_EL3 at 30 bits.
 pub const REGION_BYTES: u64 = 1 << 30;
 
 /// The most walks that a processor may keep.
@@ -210,7 +210,7 @@ impl Setup {
         small_granule()
     }
 
-    /// Bytes that an L1 word stands for: sixteen granules.
+    /// Bytes that an L1 word covers: sixteen granules.
     #[tactic(auto, unfolding(crate::specs::Sizes::granule_bytes, crate::specs::Sizes::word_bytes))]
     pub fn word_bytes(&self) -> u64
         ensures value { result ≡ word_bytes self.now }
@@ -228,7 +228,7 @@ impl Setup {
         size.bytes() / self.word_bytes()
     }
 
-    /// L1 words of a table, which stands for 1 GB.
+    /// L1 words of a table, which covers 1 GB.
     #[tactic(auto, unfolding(crate::specs::Sizes::granule_bytes, crate::specs::Sizes::word_bytes, crate::specs::Sizes::table_words))]
     pub fn table_words(&self) -> u64
         ensures value { result ≡ table_words self.now }

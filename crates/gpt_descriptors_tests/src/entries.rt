@@ -70,7 +70,7 @@ fn stray_bits_are_refused(rt: HostRuntime) {
 }
 
 /// Seven bytes of one GPI, above a low byte.
-const FRONTS: [u64; 6] = [
+const ABOVE: [u64; 6] = [
     0,
     0x8888_8888_8888_8800,
     0x9999_9999_9999_9900,
@@ -88,9 +88,9 @@ fn granules_in_table(word: u64) -> Option<L1Entry> {
 
 #[test]
 fn granules_descriptors_have_sixteen_known_fields(rt: HostRuntime) {
-    for front in FRONTS.iter() {
+    for above in ABOVE.iter() {
         for low in 0..256u64 {
-            let word = *front | low;
+            let word = *above | low;
             assert_eq!(rt; decode_l1(word), granules_in_table(word), "of {word:#x}");
         }
     }

@@ -31,6 +31,10 @@ pub record SplittingData : Type 0 where
   pub words : ℕ
   pub two : ℕ
 
+-- before the first store
+abbrev pub started : ℕ → ℕ → Gpi → ℕ → ℕ → SplittingData
+started first own gpi words two = record { first = first; own = own; gpi = gpi; made = 0; words = words; two = two }
+
 -- store j of a splitting, and all of them, in rising order of places
 abbrev pub store_of : SplittingData → ℕ → Act
 store_of d j = act.Store (d.first + j) (split_word d.two d.own d.gpi j)

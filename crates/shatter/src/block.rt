@@ -1,5 +1,5 @@
 ghost use Rattle.std.specs.Prelude.{◌≡◌, ◌+◌, ◌^◌, ◌<◌, IsSome};
-ghost use Rattle.shatter.specs.Splitting.{next_store, advanced};
+ghost use Rattle.shatter.specs.Splitting.{started, next_store, advanced};
 
 use crate::splitting::Splitting;
 use gpt_descriptors::Gpi;
@@ -35,7 +35,7 @@ impl<const N: usize> Shatter<N> {
     pub fn new(first: usize, own: usize, gpi: Gpi) -> Shatter<N>
         requires own { own < N }
         requires room { first + N < 2 ^ 64 }
-        ensures { result ≡ record { first = first; own = own; gpi = gpi; made = 0; words = N; two = 32 } }
+        ensures { result ≡ started first own gpi N 32 }
     {
         Shatter {
             splitting: Splitting::new(first, own, gpi, N, TWO_WORDS),

@@ -1,5 +1,5 @@
 ghost use Rattle.std.specs.Prelude.{◌≡◌, ◌+◌, ◌-◌, ◌*◌, ◌/◌, ◌^◌, ◌<◌, ◌≤◌, ◌==◌, ℕ, not, nat_lt, IsSome};
-ghost use Rattle.shatter.specs.Splitting.{split_word, next_store, advanced};
+ghost use Rattle.shatter.specs.Splitting.{split_word, started, next_store, advanced};
 
 use gpt_descriptors::{Gpi, L1Entry, Size, encode_l1, granules_of};
 use shared_words::Act;
@@ -61,7 +61,7 @@ impl Splitting {
         requires own { own < words }
         requires room { first + words < 2 ^ 64 }
         requires two { (0 < two) × (16 * two < 2 ^ 64) }
-        ensures { result ≡ record { first = first; own = own; gpi = gpi; made = 0; words = words; two = two } }
+        ensures { result ≡ started first own gpi words two }
     {
         let thirty_two = 16 * two;
         Splitting {

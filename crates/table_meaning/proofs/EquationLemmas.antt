@@ -14,7 +14,7 @@ use Rattle.table_meaning.specs.Equation.{Step, Whole, Holder, apart_in, in_block
 
 -- ---- words that stay, and one that is stored
 
--- what stands apart may change where no word does
+-- what is apart may change where no word does
 pub still_words : (g : GeometryData) (m l : ℕ → Gpi) (before after : ℕ → Option ℕ) (words : List ℕ)
     → ((w : ℕ) → canonical_word g.setup m (before w) w ≡ canonical_word g.setup l (after w) w) → AreWords g m before words → AreWords g l after words
 still_words g m l before after words same are = λ w i at. are w i at ∙ same w
@@ -37,7 +37,7 @@ stored_words g m l before after words v i word at place is same are = λ w j the
           ∙ are w j there ∙ same w other
     ]
 
--- ---- which granule stands apart
+-- ---- which granule is apart
 
 inside_of : (s : SetupData) (g w : ℕ) (o : Option ℕ) → g / 16 / words_of s size.FiveTwelve ≡ w / words_of s size.FiveTwelve → in_block_of s g w o ≡ o
 inside_of s g w o inside = rw (eq-eqb _ _ inside) refl
@@ -126,7 +126,7 @@ alone_apart s hs c g w alone inside d x other there =
 pub alone_stays : (s : SetupData) (hs : List Holder) (c g : ℕ) (x : Holder) → IsAlone s hs c g → IsAlone s (set hs c x) c g
 alone_stays s hs c g x alone = λ d y other there. alone d y other (sym (holder_set_other hs c d x other) ∙ there)
 
--- in its own 512 MB a holder that is alone there says what stands apart
+-- in its own 512 MB a holder that is alone there says what is apart
 pub by_own : (s : SetupData) (hs : List Holder) (c g : ℕ) (step : Step) (w : ℕ) → slice_get hs c ≡ Some (record { granule = g; step = step }) → IsAlone s hs c g
     → g / 16 / words_of s size.FiveTwelve ≡ w / words_of s size.FiveTwelve → apart_by s hs w ≡ apart_in s g w step
 by_own s hs c g step w at alone inside =

@@ -120,7 +120,7 @@ all_stored s z v w within =
 
 -- ---- splitting
 
--- a loaded contiguous word tells the largest block around the granule, and its GPI
+-- a loaded contiguous word says the largest block around the granule, and its GPI
 pub loaded_says : (s : SetupData) (m : ℕ → Gpi) (z : Size) (g : ℕ) (gpi : Gpi) → l1_entry (canonical_word s m None (g / 16)) ≡ Some (l1.Contig z gpi)
     → (largest_block s m None (g / 16) ≡ Some z) × BlockIs s m z (g / 16 / words_of s z) gpi
 loaded_says s m z g gpi read =

@@ -1,7 +1,7 @@
 use Rattle.std.proofs.Common.{◌≡◌, map}
 use Rattle.std.specs.List.{range_with_len}
 use Rattle.shatter.specs.Splitting.{store_of}
-use Rattle.shatter_tests.proofs.stores.slow_stores.Given as goal
+use Rattle.shatter_tests.proofs.slow.slow_stores.Given as goal
 
 abbrev pub invariant-loop-j : goal.invariant-loop-j
 invariant-loop-j l =
