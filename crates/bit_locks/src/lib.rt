@@ -1,5 +1,5 @@
 //! The bit locks of TF-A's `gpt_rme`: each covers a whole number of 512 MB blocks of the protected
-//! space, and stands as one bit in one of two shared words. No call takes memory.
+//! space, and is one bit in one of two shared words. No call takes memory.
 #![tactic(auto)]
 
 mod law;

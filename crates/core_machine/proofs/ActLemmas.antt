@@ -35,12 +35,12 @@ use Rattle.core_machine.specs.InnerSeen.{Sees}
 use Rattle.core_machine.specs.InnerRaised.{is_due}
 use Rattle.core_machine.specs.InnerAlone.{IsAlone}
 use Rattle.core_machine.specs.InnerCounted.{coming_at, known_answers, caller_tasks}
-use Rattle.core_machine.specs.InnerHistory.{Tells}
-use Rattle.core_machine.specs.InnerInvariant.{IsMade, Stands, AreIdle}
+use Rattle.core_machine.specs.InnerHistory.{IsHistoryOf}
+use Rattle.core_machine.specs.InnerInvariant.{IsMade, Invariant, AreIdle}
 use Rattle.core_machine.proofs.ListLemmas.{one, get_set, get_append, get_front}
 use Rattle.core_machine.proofs.LockLemmas.{locks_keep}
 use Rattle.core_machine.proofs.OthersLemmas.{Holder, other_number, made_at_place, is_holder, holder_has}
-use Rattle.core_machine.proofs.ToldLemmas.{tells_keep}
+use Rattle.core_machine.proofs.ToldLemmas.{history_keeps}
 use Rattle.core_machine.proofs.OpenedLemmas.{opened_stays, others_closed}
 use Rattle.core_machine.proofs.RaisedLemmas.{generations_keep}
 use Rattle.core_machine.proofs.AloneLemmas.{undisturbed_more, alone_own, alone_other}
@@ -61,7 +61,7 @@ lock_low s pa setup inside =
 
 -- caller c is an agent at a stage of a task with acts, and all facts stand
 pub record Acting (first : List Gpi) (words : List ℕ) (callers : List Caller) (h : List Entry) (c : ℕ) (a : AgentData) (t : Task) (s : Stage) : Type 0 where
-  pub stands : Stands a.geometry first words callers h
+  pub stands : Invariant a.geometry first words callers h
   pub at : slice_get callers c ≡ Some (caller.Agent (at_stage a s))
   pub is : IsAgent (at_stage a s)
   pub under_way : task_of a ≡ Some t
@@ -119,9 +119,9 @@ held_number : (g : GeometryData) (callers : List Caller) (d n : ℕ) (y : Caller
 held_number g callers d n (caller.Cpu looks) there made has = absurd cc
 held_number g callers d n (caller.Agent b) there made has = held_by g callers d n b (task_of b) there made refl has
 
--- ---- a step that tells nothing
+-- ---- a step that makes no entry
 
-pub record Quietly (first : List Gpi) (words after : List ℕ) (callers : List Caller) (h : List Entry) (c : ℕ) (a : AgentData) (me x : Caller) : Type 0 where
+pub record WithoutEntry (first : List Gpi) (words after : List ℕ) (callers : List Caller) (h : List Entry) (c : ℕ) (a : AgentData) (me x : Caller) : Type 0 where
   pub size : length after ≡ length words
   pub made : IsMade a.geometry x
   pub tables : MeansMap a.geometry after (state_of first h).map
@@ -133,15 +133,15 @@ pub record Quietly (first : List Gpi) (words after : List ℕ) (callers : List C
       → generation_word a.geometry after y region + one (is_due y region x) ≡ generation_word a.geometry words y region + one (is_due y region me)
   pub alone : (n : ℕ) → holds n x ≡ true → IsAlone a.geometry.setup n c (call_of x) h
   pub tasks : caller_tasks x ≡ caller_tasks me
-  pub counted : (k : ℕ) (u : Task) (told : Answer) → slice_get (caller_tasks me) k ≡ Some u → slice_get (known_answers x) k ≡ Some told → IsCounted a.geometry c k u told h
+  pub counted : (k : ℕ) (u : Task) (given : Answer) → slice_get (caller_tasks me) k ≡ Some u → slice_get (known_answers x) k ≡ Some given → IsCounted a.geometry c k u given h
   pub own : own_of c x ≡ own_of c me
   pub idle : AreIdle a.geometry after
 
-pub quiet_keep : (first : List Gpi) (words after : List ℕ) (callers : List Caller) (h : List Entry) (c : ℕ) (a : AgentData) (me x : Caller) → Stands a.geometry first words callers h → slice_get callers c ≡ Some me
-    → Quietly first words after callers h c a me x → Stands a.geometry first after (set callers c x) (h ++ [])
-quiet_keep first words after callers h c a me x stands at q =
+pub without_entry_keeps : (first : List Gpi) (words after : List ℕ) (callers : List Caller) (h : List Entry) (c : ℕ) (a : AgentData) (me x : Caller) → Invariant a.geometry first words callers h → slice_get callers c ≡ Some me
+    → WithoutEntry first words after callers h c a me x → Invariant a.geometry first after (set callers c x) (h ++ [])
+without_entry_keeps first words after callers h c a me x stands at q =
     let same : h ++ [] ≡ h = append-nil h in
-    subst (λ (l : List Entry). Stands a.geometry first after (set callers c x) l) (sym same)
+    subst (λ (l : List Entry). Invariant a.geometry first after (set callers c x) l) (sym same)
     (record {
       shape = record {
         geometry = stands.shape.geometry;
@@ -163,21 +163,21 @@ quiet_keep first words after callers h c a me x stands at q =
             | inl here ↦ subst (λ (z : Caller). IsAlone a.geometry.setup n d (call_of z) h) here.1 (subst (λ (m : ℕ). IsAlone a.geometry.setup n m (call_of x) h) (sym here.0) (q.alone n (subst (λ (z : Caller). holds n z ≡ true) (sym here.1) has)))
             | inr away ↦ stands.alone d n y away.1 has
           ];
-      counted = λ d k y u told there asked answered.
+      counted = λ d k y u given there asked answered.
           elim (get_set callers c d x y there) [
-            | inl here ↦ subst (λ (m : ℕ). IsCounted a.geometry m k u told h) (sym here.0)
-                (q.counted k u told (subst (λ (tasks : List Task). slice_get tasks k ≡ Some u) q.tasks (subst (λ (z : Caller). slice_get (caller_tasks z) k ≡ Some u) (sym here.1) asked))
-                (subst (λ (z : Caller). slice_get (known_answers z) k ≡ Some told) (sym here.1) answered))
-            | inr away ↦ stands.counted d k y u told away.1 asked answered
+            | inl here ↦ subst (λ (m : ℕ). IsCounted a.geometry m k u given h) (sym here.0)
+                (q.counted k u given (subst (λ (tasks : List Task). slice_get tasks k ≡ Some u) q.tasks (subst (λ (z : Caller). slice_get (caller_tasks z) k ≡ Some u) (sym here.1) asked))
+                (subst (λ (z : Caller). slice_get (known_answers z) k ≡ Some given) (sym here.1) answered))
+            | inr away ↦ stands.counted d k y u given away.1 asked answered
           ];
-      told = subst (Tells first (set callers c x)) same
-          (tells_keep first callers h c 0 me x [] at stands.told (inl refl) (q.own ∙ sym (append-nil (own_of c me))) tt);
+      history = subst (IsHistoryOf first (set callers c x)) same
+          (history_keeps first callers h c 0 me x [] at stands.history (inl refl) (q.own ∙ sym (append-nil (own_of c me))) tt);
       idle = q.idle;
     })
 
--- ---- a step that tells one entry of its call, and stays inside
+-- ---- a step that makes one entry of its call, and stays inside
 
-pub record Telling (first : List Gpi) (words after : List ℕ) (callers : List Caller) (h : List Entry) (c : ℕ) (a : AgentData) (t : Task) (s next : Stage) (e : Entry) : Type 0 where
+pub record WithEntry (first : List Gpi) (words after : List ℕ) (callers : List Caller) (h : List Entry) (c : ℕ) (a : AgentData) (t : Task) (s next : Stage) (e : Entry) : Type 0 where
   pub inside : is_inside s ≡ true
   pub stays : is_inside next ≡ true
   pub size : length after ≡ length words
@@ -193,7 +193,7 @@ pub record Telling (first : List Gpi) (words after : List ℕ) (callers : List C
   pub raised : (y : Size) (region : ℕ) → region < blocks_in_region y * a.geometry.setup.gigabytes
       → generation_word a.geometry after y region + one (is_due y region (caller.Agent (goes_to (at_stage a s) next))) + count_of a.geometry.setup.first (granule_bytes a.geometry.setup) y region h
       ≡ generation_word a.geometry words y region + one (is_due y region (caller.Agent (at_stage a s))) + count_of a.geometry.setup.first (granule_bytes a.geometry.setup) y region (h ++ e ∷ [])
-  pub coming : (told : Answer) → coming_at next ≡ told ∷ [] → IsCounted a.geometry c (length a.answers) t told (h ++ e ∷ [])
+  pub coming : (given : Answer) → coming_at next ≡ given ∷ [] → IsCounted a.geometry c (length a.answers) t given (h ++ e ∷ [])
   pub own : own_of c (caller.Agent (goes_to (at_stage a s) next)) ≡ own_of c (caller.Agent (at_stage a s)) ++ e ∷ []
   pub idle : AreIdle a.geometry after
 
@@ -213,14 +213,14 @@ is_by_other c d k j e mine call apart =
       ])
     ]
 
-one_item : (xs : List Answer) (i : ℕ) (told : Answer) → length xs < 2 → slice_get xs i ≡ Some told → (i ≡ 0) × (xs ≡ told ∷ [])
-one_item [] i told few there = absurd cc
-one_item (x ∷ []) zero told few there = (refl, let same : x ≡ told = cc in ap (λ (y : Answer). y ∷ []) same)
-one_item (x ∷ []) (suc i) told few there = absurd cc
-one_item (x ∷ y ∷ xs) i told few there = absurd (omega (arith, few))
+one_item : (xs : List Answer) (i : ℕ) (given : Answer) → length xs < 2 → slice_get xs i ≡ Some given → (i ≡ 0) × (xs ≡ given ∷ [])
+one_item [] i given few there = absurd cc
+one_item (x ∷ []) zero given few there = (refl, let same : x ≡ given = cc in ap (λ (y : Answer). y ∷ []) same)
+one_item (x ∷ []) (suc i) given few there = absurd cc
+one_item (x ∷ y ∷ xs) i given few there = absurd (omega (arith, few))
 
 coming_few : (s : Stage) → length (coming_at s) < 2
-coming_few (stage.Releasing (Some told)) = omega arith
+coming_few (stage.Releasing (Some given)) = omega arith
 coming_few (stage.Releasing None) = omega arith
 coming_few stage.Locking = omega arith
 coming_few stage.Looking = omega arith
@@ -230,35 +230,35 @@ coming_few (stage.Raising c z k) = omega arith
 coming_few stage.Stopped = omega arith
 
 -- the answer of a call that goes on to this stage: an earlier one, or the one that is to come
-pub known_parts : (answers : List Answer) (s : Stage) (k : ℕ) (told : Answer) → slice_get (answers ++ coming_at s) k ≡ Some told
-    → ((k < length answers) × (slice_get answers k ≡ Some told)) ⊎ ((k ≡ length answers) × (coming_at s ≡ told ∷ []))
-known_parts answers s k told there =
-    elim (get_append answers (coming_at s) k told there) [
+pub known_parts : (answers : List Answer) (s : Stage) (k : ℕ) (given : Answer) → slice_get (answers ++ coming_at s) k ≡ Some given
+    → ((k < length answers) × (slice_get answers k ≡ Some given)) ⊎ ((k ≡ length answers) × (coming_at s ≡ given ∷ []))
+known_parts answers s k given there =
+    elim (get_append answers (coming_at s) k given there) [
       | inl front ↦ inl front
-      | inr back ↦ (let one = one_item (coming_at s) back.0 told (coming_few s) back.2 in inr (let same : k ≡ length answers = omega (arith, back.1, one.0) in same, one.1))
+      | inr back ↦ (let one = one_item (coming_at s) back.0 given (coming_few s) back.2 in inr (let same : k ≡ length answers = omega (arith, back.1, one.0) in same, one.1))
     ]
 
 holds_same : (a : AgentData) (s next : Stage) (n : ℕ) → is_inside s ≡ true → is_inside next ≡ true → holds n (caller.Agent (goes_to (at_stage a s) next)) ≡ holds n (caller.Agent (at_stage a s))
 holds_same a s next n inside stays = rw (inside, stays) refl
 
--- its own answers tell the counts
-own_counted : (first : List Gpi) (words after : List ℕ) (callers : List Caller) (h : List Entry) (c : ℕ) (a : AgentData) (t : Task) (s next : Stage) (e : Entry) (k : ℕ) (u : Task) (told : Answer) → Acting first words callers h c a t s
-    → Telling first words after callers h c a t s next e → slice_get a.tasks k ≡ Some u → slice_get (a.answers ++ coming_at next) k ≡ Some told → IsCounted a.geometry c k u told (h ++ e ∷ [])
-own_counted first words after callers h c a t s next e k u told acting tells asked answered =
-    elim (known_parts a.answers next k told answered) [
+-- its own answers are the counts
+own_counted : (first : List Gpi) (words after : List ℕ) (callers : List Caller) (h : List Entry) (c : ℕ) (a : AgentData) (t : Task) (s next : Stage) (e : Entry) (k : ℕ) (u : Task) (given : Answer) → Acting first words callers h c a t s
+    → WithEntry first words after callers h c a t s next e → slice_get a.tasks k ≡ Some u → slice_get (a.answers ++ coming_at next) k ≡ Some given → IsCounted a.geometry c k u given (h ++ e ∷ [])
+own_counted first words after callers h c a t s next e k u given acting tells asked answered =
+    elim (known_parts a.answers next k given answered) [
       | inl old ↦
-          counted_more a.geometry c k u told h e
-          (acting.stands.counted c k (caller.Agent (at_stage a s)) u told acting.at asked (get_front a.answers (coming_at s) k told old.1))
+          counted_more a.geometry c k u given h e
+          (acting.stands.counted c k (caller.Agent (at_stage a s)) u given acting.at asked (get_front a.answers (coming_at s) k given old.1))
           (is_by_other c c (length a.answers) k e tells.by.0 tells.by.1 (inr (λ same. omega (arith, same, old.0))))
       | inr new ↦
           (let task : t ≡ u = let both : Some t ≡ Some u = sym acting.under_way ∙ ap (slice_get a.tasks) (sym new.0) ∙ asked in cc in
-          subst (λ (m : ℕ). IsCounted a.geometry c m u told (h ++ e ∷ [])) (sym new.0)
-          (subst (λ (v : Task). IsCounted a.geometry c (length a.answers) v told (h ++ e ∷ [])) task (tells.coming told new.1)))
+          subst (λ (m : ℕ). IsCounted a.geometry c m u given (h ++ e ∷ [])) (sym new.0)
+          (subst (λ (v : Task). IsCounted a.geometry c (length a.answers) v given (h ++ e ∷ [])) task (tells.coming given new.1)))
     ]
 
-pub telling_keep : (first : List Gpi) (words after : List ℕ) (callers : List Caller) (h : List Entry) (c : ℕ) (a : AgentData) (t : Task) (s next : Stage) (e : Entry) → Acting first words callers h c a t s
-    → Telling first words after callers h c a t s next e → Stands a.geometry first after (set callers c (caller.Agent (goes_to (at_stage a s) next))) (h ++ e ∷ [])
-telling_keep first words after callers h c a t s next e acting tells =
+pub with_entry_keeps : (first : List Gpi) (words after : List ℕ) (callers : List Caller) (h : List Entry) (c : ℕ) (a : AgentData) (t : Task) (s next : Stage) (e : Entry) → Acting first words callers h c a t s
+    → WithEntry first words after callers h c a t s next e → Invariant a.geometry first after (set callers c (caller.Agent (goes_to (at_stage a s) next))) (h ++ e ∷ [])
+with_entry_keeps first words after callers h c a t s next e acting tells =
     let stands = acting.stands in
     let me = caller.Agent (at_stage a s) in
     let x = caller.Agent (goes_to (at_stage a s) next) in
@@ -298,15 +298,15 @@ telling_keep first words after callers h c a t s next e acting tells =
                       other_lock first words callers h c a t s acting tells.inside d theirs.0 theirs.1 away.0 theirs.2 (theirs.3 ∙ tells.block n on))
                 ])
           ];
-      counted = λ d k y u told there asked answered.
+      counted = λ d k y u given there asked answered.
           elim (get_set callers c d x y there) [
             | inl here ↦
-                subst (λ (m : ℕ). IsCounted a.geometry m k u told (h ++ e ∷ [])) (sym here.0)
-                (own_counted first words after callers h c a t s next e k u told acting tells (subst (λ (z : Caller). slice_get (caller_tasks z) k ≡ Some u) (sym here.1) asked)
-                (subst (λ (z : Caller). slice_get (known_answers z) k ≡ Some told) (sym here.1) answered))
+                subst (λ (m : ℕ). IsCounted a.geometry m k u given (h ++ e ∷ [])) (sym here.0)
+                (own_counted first words after callers h c a t s next e k u given acting tells (subst (λ (z : Caller). slice_get (caller_tasks z) k ≡ Some u) (sym here.1) asked)
+                (subst (λ (z : Caller). slice_get (known_answers z) k ≡ Some given) (sym here.1) answered))
             | inr away ↦
-                counted_more a.geometry d k u told h e (stands.counted d k y u told away.1 asked answered) (is_by_other c d (length a.answers) k e tells.by.0 tells.by.1 (inl away.0))
+                counted_more a.geometry d k u given h e (stands.counted d k y u given away.1 asked answered) (is_by_other c d (length a.answers) k e tells.by.0 tells.by.1 (inl away.0))
           ];
-      told = tells_keep first callers h c (length a.answers) me x (e ∷ []) acting.at stands.told (inr (e, refl, tells.by.0, tells.by.1)) tells.own (tells.allowed, tt);
+      history = history_keeps first callers h c (length a.answers) me x (e ∷ []) acting.at stands.history (inr (e, refl, tells.by.0, tells.by.1)) tells.own (tells.allowed, tt);
       idle = tells.idle;
     }

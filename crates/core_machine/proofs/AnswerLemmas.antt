@@ -40,8 +40,8 @@ use Rattle.core_machine.specs.Facts.{AreAlone, AreWorn, IsCounted, is_on_block}
 use Rattle.delegate_ops.specs.Script.{AreCallEvents, CallEvent, Decides, IsCall, change_entry, completion, entries_of, granule_of_task}
 use Rattle.delegate_ops.specs.Deciding.{HasCause, address_of, generation_in, granule_place, idle_answer, is_idle, is_needed, refusal_of}
 use Rattle.delegate_ops.specs.InnerScript.{IsPrefix}
-use Rattle.core_machine.specs.InnerInvariant.{Stands}
-use Rattle.core_machine.specs.InnerHistory.{Tells}
+use Rattle.core_machine.specs.InnerInvariant.{Invariant}
+use Rattle.core_machine.specs.InnerHistory.{IsHistoryOf}
 use Rattle.history.specs.Calls.{answer_at, answered_entries, entries_by}
 use Rattle.history.specs.Entries.{call_in, caller_in, granule_in}
 use Rattle.core_machine.specs.InnerCallers.{caller_answers, own_of}
@@ -65,25 +65,25 @@ worn_cause : (o : Option Size) (f : Size → ℕ) (a : Answer) → option_map (�
 worn_cause None f a worn = absurd cc
 worn_cause (Some z) f a worn = subst (λ (x : Answer). is_idle x ≡ false) (let is : answer.Worn z (f z) ≡ a = cc in is) refl
 
-decided_cause : (g : GeometryData) (c n : ℕ) (t : Task) (told : Answer) (events : List CallEvent) → Decides g c n t (Some told) events → is_idle told ≡ false
-decided_cause g c n t told events (inl refused) = refusal_cause t (word_gpi refused.word (granule_place g (address_of t))) told refused.refused
-decided_cause g c n t told events (inr (inl worn)) =
-    worn_cause (find (λ z. is_worn (generation_in z worn.generations)) (size.Two ∷ size.ThirtyTwo ∷ size.FiveTwelve ∷ [])) (λ z. generation_in z worn.generations) told worn.worn
-decided_cause g c n t told events (inr (inr done)) = subst (λ (x : Answer). is_idle x ≡ false) (sym done.is) refl
+decided_cause : (g : GeometryData) (c n : ℕ) (t : Task) (given : Answer) (events : List CallEvent) → Decides g c n t (Some given) events → is_idle given ≡ false
+decided_cause g c n t given events (inl refused) = refusal_cause t (word_gpi refused.word (granule_place g (address_of t))) given refused.refused
+decided_cause g c n t given events (inr (inl worn)) =
+    worn_cause (find (λ z. is_worn (generation_in z worn.generations)) (size.Two ∷ size.ThirtyTwo ∷ size.FiveTwelve ∷ [])) (λ z. generation_in z worn.generations) given worn.worn
+decided_cause g c n t given events (inr (inr done)) = subst (λ (x : Answer). is_idle x ≡ false) (sym done.is) refl
 
-call_cause : (g : GeometryData) (c n : ℕ) (t : Task) (o : Option Answer) (told : Answer) (events : List CallEvent) → IsCall g c n t o told events → MatchOption o (is_idle told ≡ false) (λ idle. told ≡ idle)
-call_cause g c n t (Some idle) told events call = sym call.0
-call_cause g c n t None told events call = decided_cause g c n t told call.deciding call.decided
+call_cause : (g : GeometryData) (c n : ℕ) (t : Task) (o : Option Answer) (given : Answer) (events : List CallEvent) → IsCall g c n t o given events → MatchOption o (is_idle given ≡ false) (λ idle. given ≡ idle)
+call_cause g c n t (Some idle) given events call = sym call.0
+call_cause g c n t None given events call = decided_cause g c n t given call.deciding call.decided
 
-pub calls_cause : (g : GeometryData) (c n k : ℕ) (tasks : List Task) (answers : List Answer) (events : List CallEvent) (t : Task) (told : Answer) → AreCallEvents g c n tasks answers events
-    → slice_get tasks k ≡ Some t → slice_get answers k ≡ Some told → HasCause g t told
-calls_cause g c n k tasks [] events t told are asked answered = absurd cc
-calls_cause g c n k [] (a ∷ answers) events t told are asked answered = absurd are
-calls_cause g c n zero (x ∷ tasks) (a ∷ answers) events t told are asked answered =
+pub calls_cause : (g : GeometryData) (c n k : ℕ) (tasks : List Task) (answers : List Answer) (events : List CallEvent) (t : Task) (given : Answer) → AreCallEvents g c n tasks answers events
+    → slice_get tasks k ≡ Some t → slice_get answers k ≡ Some given → HasCause g t given
+calls_cause g c n k tasks [] events t given are asked answered = absurd cc
+calls_cause g c n k [] (a ∷ answers) events t given are asked answered = absurd are
+calls_cause g c n zero (x ∷ tasks) (a ∷ answers) events t given are asked answered =
     let task : x ≡ t = cc in
-    let is : a ≡ told = cc in
-    subst (λ (u : Task). HasCause g u told) task (subst (HasCause g x) is (call_cause g c n x (idle_answer g x) a are.0 are.3))
-calls_cause g c n (suc k) (x ∷ tasks) (a ∷ answers) events t told are asked answered = calls_cause g c (n + 1) k tasks answers are.1 t told are.4 asked answered
+    let is : a ≡ given = cc in
+    subst (λ (u : Task). HasCause g u given) task (subst (HasCause g x) is (call_cause g c n x (idle_answer g x) a are.0 are.3))
+calls_cause g c n (suc k) (x ∷ tasks) (a ∷ answers) events t given are asked answered = calls_cause g c (n + 1) k tasks answers are.1 t given are.4 asked answered
 
 -- ---- an entry of a call without an answer
 
@@ -141,7 +141,7 @@ past_end (x ∷ xs) (suc k) none = let rest = past_end xs k none in omega (arith
 inside_by : (g : GeometryData) (c n : ℕ) (s : Stage) (t : Task) (p : Entry → Bool) → list_any p (entries_at g c n s (Some t)) ≡ true → is_inside s ≡ true
 inside_by g c n (stage.Changing ch k) t p some = refl
 inside_by g c n (stage.Raising ch z k) t p some = refl
-inside_by g c n (stage.Releasing told) t p some = refl
+inside_by g c n (stage.Releasing given) t p some = refl
 inside_by g c n stage.Locking t p some = absurd cc
 inside_by g c n stage.Looking t p some = refl
 inside_by g c n (stage.Reading z k) t p some = refl
@@ -200,7 +200,7 @@ unanswered_of g callers h c k p (caller.Agent a) at made own none by some =
     (subst (λ (es : List Entry). list_any p es ≡ true) own kept) in
     record { agent = a; at = at; way = under_way_by a.geometry c k a p (task_of a) is.3.last refl is.1.acts is.1.stage is.3.under_way by there }
 
-pub unanswered : (g : GeometryData) (first : List Gpi) (callers : List Caller) (h before after : List Entry) (e : Entry) (c k : ℕ) (p : Entry → Bool) → Tells first callers h → AreMade g callers
+pub unanswered : (g : GeometryData) (first : List Gpi) (callers : List Caller) (h before after : List Entry) (e : Entry) (c k : ℕ) (p : Entry → Bool) → IsHistoryOf first callers h → AreMade g callers
     → answer_at (map caller_answers callers) c k ≡ None → ((x : Entry) → p x ≡ true → is_by c k x ≡ true) → h ≡ before ++ e ∷ after → p e ≡ true → Unanswered g callers c k p
 unanswered g first callers h before after e c k p tells made none by parts passes =
     let low : caller_in e < length callers = all_middle (λ (x : Entry). caller_in x < length callers) before after e (subst (All (λ (x : Entry). caller_in x < length callers)) parts tells.known) in
@@ -228,7 +228,7 @@ task_granule g (task.Look pa space) granule is = cc
 abbrev on_block_of : SetupData → ℕ → ℕ → ℕ → Entry → Bool
 on_block_of s c k n e = is_by c k e && is_on_block s n e
 
-alone_of : (first : List Gpi) (words : List ℕ) (callers : List Caller) (h before after : List Entry) (e : Entry) (c k n : ℕ) (a : AgentData) → Stands a.geometry first words callers h → slice_get callers c ≡ Some (caller.Agent a)
+alone_of : (first : List Gpi) (words : List ℕ) (callers : List Caller) (h before after : List Entry) (e : Entry) (c k n : ℕ) (a : AgentData) → Invariant a.geometry first words callers h → slice_get callers c ≡ Some (caller.Agent a)
     → UnderWay a.geometry c k a (on_block_of a.geometry.setup c k n) → h ≡ before ++ e ∷ after → is_by c k e ≡ true → All (λ x. is_on_block a.geometry.setup n x ≡ true → is_by c k x ≡ true) after
 alone_of first words callers h before after e c k n a stands at way parts by =
     let g = a.geometry in
@@ -241,19 +241,19 @@ alone_of first words callers h before after e c k n a stands at way parts by =
     let alone : IsAlone g.setup n c k h = subst (λ (m : ℕ). IsAlone g.setup n c m h) (sym way.number) (stands.alone c n (caller.Agent a) at has) in
     all_after (is_by c k) (λ x. is_on_block g.setup n x ≡ true → is_by c k x ≡ true) alone.before alone.since before after e (sym alone.parts ∙ parts) alone.fresh by alone.alone
 
-pub alone_told : (g : GeometryData) (first : List Gpi) (words : List ℕ) (callers : List Caller) (h : List Entry) → Stands g first words callers h → AreMade g callers → AreAlone g.setup (map caller_answers callers) h
+pub alone_told : (g : GeometryData) (first : List Gpi) (words : List ℕ) (callers : List Caller) (h : List Entry) → Invariant g first words callers h → AreMade g callers → AreAlone g.setup (map caller_answers callers) h
 alone_told g first words callers h stands made before after e c k n parts none by on =
-    let one = unanswered g first callers h before after e c k (on_block_of g.setup c k n) stands.told made none (λ x passes. (and_parts (is_by c k x) (is_on_block g.setup n x) passes).0) parts (rw by on) in
+    let one = unanswered g first callers h before after e c k (on_block_of g.setup c k n) stands.history made none (λ x passes. (and_parts (is_by c k x) (is_on_block g.setup n x) passes).0) parts (rw by on) in
     let is = made c one.agent one.at in
     let way = one.way in
     subst (λ (v : GeometryData). All (λ (x : Entry). is_on_block v.setup n x ≡ true → is_by c k x ≡ true) after) is.0
-    (alone_of first words callers h before after e c k n one.agent (subst (λ (v : GeometryData). Stands v first words callers h) (sym is.0) stands) one.at
+    (alone_of first words callers h before after e c k n one.agent (subst (λ (v : GeometryData). Invariant v first words callers h) (sym is.0) stands) one.at
     (subst (λ (v : GeometryData). UnderWay one.agent.geometry c k one.agent (on_block_of v.setup c k n)) (sym is.0) way) parts by)
 
 -- ---- a refusal with the needed GPI
 
 abbrev refuses : Gpi → Entry → Bool
-refuses found (entry.Refused c k granule told) = eqb (value_of told) (value_of found)
+refuses found (entry.Refused c k granule given) = eqb (value_of given) (value_of found)
 refuses found e = false
 
 abbrev refused_by : ℕ → ℕ → Gpi → Entry → Bool
@@ -267,21 +267,21 @@ none_refuses : (c k : ℕ) (found : Gpi) (e : Entry) → refuses found e ≡ fal
 none_refuses c k found e none = and_right (is_by c k e) (refuses found e) none
 
 -- the answer that the call is to have is a worn one
-worn_to_come : (g : GeometryData) (c n k : ℕ) (t : Task) (told : Answer) (found : Gpi) → needed t ≡ Some found → FitsAnswer t told → list_any (refused_by c k found) (entries_of g c n t told) ≡ true
-    → (z : Size) × (value : ℕ) × (told ≡ answer.Worn z value)
+worn_to_come : (g : GeometryData) (c n k : ℕ) (t : Task) (given : Answer) (found : Gpi) → needed t ≡ Some found → FitsAnswer t given → list_any (refused_by c k found) (entries_of g c n t given) ≡ true
+    → (z : Size) × (value : ℕ) × (given ≡ answer.Worn z value)
 worn_to_come g c n k t (answer.Worn z value) found needs fits some = (z, value, refl)
-worn_to_come g c n k (task.Delegate pa source) (answer.Perm told) found needs fits some =
+worn_to_come g c n k (task.Delegate pa source) (answer.Perm given) found needs fits some =
     absurd
-    (let one = (and_parts _ _ (any_one (refused_by c k found) (entry.Refused c n (pa / granule_bytes g.setup) told) some)).1 in
+    (let one = (and_parts _ _ (any_one (refused_by c k found) (entry.Refused c n (pa / granule_bytes g.setup) given) some)).1 in
     let needed_is : gpi.NonSecure ≡ found = cc in
-    let same : value_of gpi.NonSecure ≡ value_of told = ap value_of needed_is ∙ sym (eqb-true _ _ one) in
-    let both : true ≡ false = sym (eq-eqb (value_of gpi.NonSecure) (value_of told) same) ∙ fits in cc)
-worn_to_come g c n k (task.Undelegate pa source) (answer.Perm told) found needs fits some =
+    let same : value_of gpi.NonSecure ≡ value_of given = ap value_of needed_is ∙ sym (eqb-true _ _ one) in
+    let both : true ≡ false = sym (eq-eqb (value_of gpi.NonSecure) (value_of given) same) ∙ fits in cc)
+worn_to_come g c n k (task.Undelegate pa source) (answer.Perm given) found needs fits some =
     absurd
-    (let one = (and_parts _ _ (any_one (refused_by c k found) (entry.Refused c n (pa / granule_bytes g.setup) told) some)).1 in
+    (let one = (and_parts _ _ (any_one (refused_by c k found) (entry.Refused c n (pa / granule_bytes g.setup) given) some)).1 in
     let needed_is : of_source source ≡ found = cc in
-    let same : value_of (of_source source) ≡ value_of told = ap value_of needed_is ∙ sym (eqb-true _ _ one) in
-    let both : true ≡ false = sym (eq-eqb (value_of (of_source source)) (value_of told) same) ∙ fits in cc)
+    let same : value_of (of_source source) ≡ value_of given = ap value_of needed_is ∙ sym (eqb-true _ _ one) in
+    let both : true ≡ false = sym (eq-eqb (value_of (of_source source)) (value_of given) same) ∙ fits in cc)
 worn_to_come g c n k (task.Delegate pa source) (answer.Done generations) found needs fits some =
     absurd (none_pass (refused_by c k found) (entries_of g c n (task.Delegate pa source) (answer.Done generations))
     (all_two (λ e. refused_by c k found e ≡ false) (entry.Changed c n (pa / granule_bytes g.setup) gpi.NonSecure (of_source source)) (entry.Settled c n (pa / granule_bytes g.setup))
@@ -300,8 +300,8 @@ worn_to_come g c n k (task.Delegate pa source) (answer.Seen access) found needs 
 worn_to_come g c n k (task.Undelegate pa source) answer.Inval found needs fits some = absurd cc
 worn_to_come g c n k (task.Undelegate pa source) answer.Unknown found needs fits some = absurd cc
 worn_to_come g c n k (task.Undelegate pa source) (answer.Seen access) found needs fits some = absurd fits
-worn_to_come g c n k task.Unknown told found needs fits some = absurd cc
-worn_to_come g c n k (task.Look pa space) told found needs fits some = absurd cc
+worn_to_come g c n k task.Unknown given found needs fits some = absurd cc
+worn_to_come g c n k (task.Look pa space) given found needs fits some = absurd cc
 
 before_quiet : (g : GeometryData) (c n k : ℕ) (t : Task) (ch : Change) (found : Gpi) → All (λ e. refused_by c k found e ≡ false) (entries_before g c n t ch)
 before_quiet g c n k (task.Undelegate pa source) change.Last found =
@@ -316,8 +316,8 @@ get_after (y ∷ xs) x = get_after xs x
 -- the entries at a stage refuse only where the call is to be answered so
 worn_at : (g : GeometryData) (c n k : ℕ) (s : Stage) (t : Task) (found : Gpi) (events : List CallEvent) → needed t ≡ Some found → IsPrefix g c n s (Some t) events → list_any (refused_by c k found) (entries_at g c n s (Some t)) ≡ true
     → (z : Size) × (value : ℕ) × (s ≡ stage.Releasing (Some (answer.Worn z value)))
-worn_at g c n k (stage.Releasing (Some told)) t found events needs prefix some =
-    let worn = worn_to_come g c n k t told found needs (decided_fits g c n t told events prefix) some in
+worn_at g c n k (stage.Releasing (Some given)) t found events needs prefix some =
+    let worn = worn_to_come g c n k t given found needs (decided_fits g c n t given events prefix) some in
     (worn.0, worn.1, ap (λ (a : Answer). stage.Releasing (Some a)) worn.2)
 worn_at g c n k (stage.Releasing None) t found events needs prefix some = absurd cc
 worn_at g c n k (stage.Changing ch kept) t found events needs prefix some = absurd (none_pass (refused_by c k found) (entries_before g c n t ch) (before_quiet g c n k t ch found) some)
@@ -331,21 +331,21 @@ worn_at g c n k stage.Looking t found events needs prefix some = absurd cc
 worn_at g c n k (stage.Reading z kept) t found events needs prefix some = absurd cc
 worn_at g c n k stage.Stopped t found events needs prefix some = absurd cc
 
-worn_of : (g : GeometryData) (first : List Gpi) (words : List ℕ) (callers : List Caller) (h : List Entry) (c k : ℕ) (a : AgentData) (t : Task) (found : Gpi) (events : List CallEvent) → Stands g first words callers h → slice_get callers c ≡ Some (caller.Agent a)
+worn_of : (g : GeometryData) (first : List Gpi) (words : List ℕ) (callers : List Caller) (h : List Entry) (c k : ℕ) (a : AgentData) (t : Task) (found : Gpi) (events : List CallEvent) → Invariant g first words callers h → slice_get callers c ≡ Some (caller.Agent a)
     → a.geometry ≡ g → task_of a ≡ Some t → k ≡ length a.answers → needed t ≡ Some found → IsPrefix a.geometry c (length a.answers) a.stage (Some t) events
     → list_any (refused_by c k found) (entries_at a.geometry c (length a.answers) a.stage (Some t)) ≡ true → (z : Size) × (value : ℕ) × IsCounted g c k t (answer.Worn z value) h
 worn_of g first words callers h c k a t found events stands at geometry next number needs prefix some =
     let worn = worn_at a.geometry c (length a.answers) k a.stage t found events needs prefix some in
-    let told : Answer = answer.Worn worn.0 worn.1 in
-    let coming : known_answers (caller.Agent a) ≡ a.answers ++ told ∷ [] = ap (λ (s : Stage). a.answers ++ coming_at s) worn.2 in
-    let there : slice_get (known_answers (caller.Agent a)) (length a.answers) ≡ Some told = ap (λ (xs : List Answer). slice_get xs (length a.answers)) coming ∙ get_after a.answers told in
-    (worn.0, worn.1, subst (λ (m : ℕ). IsCounted g c m t told h) (sym number) (stands.counted c (length a.answers) (caller.Agent a) t told at next there))
+    let given : Answer = answer.Worn worn.0 worn.1 in
+    let coming : known_answers (caller.Agent a) ≡ a.answers ++ given ∷ [] = ap (λ (s : Stage). a.answers ++ coming_at s) worn.2 in
+    let there : slice_get (known_answers (caller.Agent a)) (length a.answers) ≡ Some given = ap (λ (xs : List Answer). slice_get xs (length a.answers)) coming ∙ get_after a.answers given in
+    (worn.0, worn.1, subst (λ (m : ℕ). IsCounted g c m t given h) (sym number) (stands.counted c (length a.answers) (caller.Agent a) t given at next there))
 
-pub worn_told : (g : GeometryData) (first : List Gpi) (words : List ℕ) (callers : List Caller) (h : List Entry) (tasks : List (List Task)) → Stands g first words callers h → HaveTasks tasks callers → AreMade g callers
+pub worn_told : (g : GeometryData) (first : List Gpi) (words : List ℕ) (callers : List Caller) (h : List Entry) (tasks : List (List Task)) → Invariant g first words callers h → HaveTasks tasks callers → AreMade g callers
     → AreWorn g tasks (map caller_answers callers) h
 worn_told g first words callers h tasks stands have made before after c k granule found t parts asked none needs =
     let e = entry.Refused c k granule found in
-    let one = unanswered g first callers h before after e c k (refused_by c k found) stands.told made none (λ x passes. (and_parts (is_by c k x) (refuses found x) passes).0) parts
+    let one = unanswered g first callers h before after e c k (refused_by c k found) stands.history made none (λ x passes. (and_parts (is_by c k x) (refuses found x) passes).0) parts
     (rw (eq-eqb c c refl, eq-eqb k k refl) (eq-eqb (value_of found) (value_of found) refl)) in
     let is = made c one.agent one.at in
     let own : slice_get one.agent.tasks k ≡ Some t = rw (have c one.agent one.at) at asked in

@@ -31,7 +31,7 @@ use Rattle.core_machine.specs.declared.caller.Caller.{Caller}
 use Rattle.core_machine.specs.declared.caller.Caller.TheVariants as caller
 use Rattle.core_machine.specs.InnerTables.{table_word}
 use Rattle.core_machine.specs.InnerSeen.{comes_before, SeesAll}
-use Rattle.core_machine.specs.InnerInvariant.{IsMade, Stands}
+use Rattle.core_machine.specs.InnerInvariant.{IsMade, Invariant}
 use Rattle.core_machine.proofs.IdleLemmas.{idle_word}
 use Rattle.core_machine.proofs.ListLemmas.{one}
 use Rattle.core_machine.proofs.TableLemmas.{usable_aligned}
@@ -39,7 +39,7 @@ use Rattle.core_machine.proofs.ChangeLemmas.{change_means}
 use Rattle.core_machine.proofs.OthersLemmas.{index_at, word_apart, others_see, granule_address}
 use Rattle.core_machine.proofs.OpenedLemmas.{opened_change, closed_here}
 use Rattle.core_machine.proofs.CountedLemmas.{count_more}
-use Rattle.core_machine.proofs.ActLemmas.{Acting, state_of, mades_of, closed_of, other_lock, telling_keep}
+use Rattle.core_machine.proofs.ActLemmas.{Acting, state_of, mades_of, closed_of, other_lock, with_entry_keeps}
 use Rattle.core_machine.proofs.LockActs.{ActKeeps}
 use Rattle.core_machine.proofs.LoadActs.{state_length, found_of, seen_of}
 use Rattle.delegate_ops.specs.Script.{change_entry, granule_of_task}
@@ -84,7 +84,7 @@ place_mod n = omega arith
 
 change_stands : (first : List Gpi) (words : List ℕ) (callers : List Caller) (h : List Entry) (c i : ℕ) (a : AgentData) (t : Task) (ch : Change) (k : Kept) → Acting first words callers h c a t (stage.Changing ch k)
     → l1_index_of a.geometry (address_of t) ≡ Some i → IsMade a.geometry (caller.Agent (goes_to (at_stage a (stage.Changing ch k)) (stage.Raising ch size.Two (kept_changed a.geometry t ch k))))
-    → Stands a.geometry first (set words (place_of a.geometry (Level1 i)) (changed_word a.geometry t ch k.word))
+    → Invariant a.geometry first (set words (place_of a.geometry (Level1 i)) (changed_word a.geometry t ch k.word))
     (set callers c (caller.Agent (goes_to (at_stage a (stage.Changing ch k)) (stage.Raising ch size.Two (kept_changed a.geometry t ch k))))) (h ++ change_entry a.geometry c (length a.answers) t ch ∷ [])
 change_stands first words callers h c i a t ch k acting index made =
     let g = a.geometry in
@@ -108,7 +108,7 @@ change_stands first words callers h c i a t ch k acting index made =
     let gives : slice_get map granule ≡ Some (from_of t ch) = let same : Some (from_of t ch) ≡ Some found.0 = found.1 in found.2 ∙ sym same in
     let count : length map ≡ space_granules g.setup = state_length (start first) h ∙ stands.shape.granules in
     let closed = closed_of first words callers h c a t s acting refl in
-    telling_keep first words after callers h c a t s next e acting
+    with_entry_keeps first words after callers h c a t s next e acting
     (record {
       inside = refl;
       stays = refl;
@@ -136,7 +136,7 @@ change_stands first words callers h c i a t ch k acting index made =
       raised = λ y region in_space.
           rw (generation_beside g words i (changed_word g t ch k.word) y region within in_space, acting.under_way, due_two y)
           (change_one g c (length a.answers) t ch g.setup.first (granule_bytes g.setup) y region h (generation_word g words y region));
-      coming = λ told is. absurd cc;
+      coming = λ given is. absurd cc;
       own = rw acting.under_way (sym (append_assoc (answered_entries (granule_bytes g.setup) c 0 a.tasks a.answers) (entries_before g c (length a.answers) t ch) (e ∷ [])));
     })
 

@@ -49,9 +49,9 @@ count_more first bytes z region h e =
 one_more : (h before after : List Entry) (x e : Entry) → h ≡ before ++ x ∷ after → h ++ e ∷ [] ≡ before ++ x ∷ (after ++ e ∷ [])
 one_more h before after x e parts = ap (λ (xs : List Entry). xs ++ e ∷ []) parts ∙ append_assoc before (x ∷ after) (e ∷ [])
 
-pub counted_more : (g : GeometryData) (c k : ℕ) (t : Task) (told : Answer) (h : List Entry) (e : Entry) → IsCounted g c k t told h
-    → (is_completion e && is_by c k e) ≡ false → IsCounted g c k t told (h ++ e ∷ [])
-counted_more g c k t (answer.Done told) h e counted other = record {
+pub counted_more : (g : GeometryData) (c k : ℕ) (t : Task) (given : Answer) (h : List Entry) (e : Entry) → IsCounted g c k t given h
+    → (is_completion e && is_by c k e) ≡ false → IsCounted g c k t given (h ++ e ∷ [])
+counted_more g c k t (answer.Done given) h e counted other = record {
   before = counted.before;
   after = counted.after ++ e ∷ [];
   parts = one_more h counted.before counted.after (entry.Settled c k (granule_of_task g t)) e counted.parts;
@@ -66,13 +66,13 @@ counted_more g c k t (answer.Worn z value) h e counted other = record {
   first_worn = counted.first_worn;
   counted = counted.counted;
 }
-counted_more g c k t told h e counted other = tt
+counted_more g c k t given h e counted other = tt
 
 -- ---- from the call's last entry on
 
-pub done_counted : (g : GeometryData) (c k : ℕ) (t : Task) (told : Generations) (h : List Entry) → told ≡ counts_around g.setup.first (granule_bytes g.setup) (granule_of_task g t) h
-    → IsCounted g c k t (answer.Done told) (h ++ entry.Settled c k (granule_of_task g t) ∷ [])
-done_counted g c k t told h counts = record { before = h; after = []; parts = refl; last = refl; counts = counts }
+pub done_counted : (g : GeometryData) (c k : ℕ) (t : Task) (given : Generations) (h : List Entry) → given ≡ counts_around g.setup.first (granule_bytes g.setup) (granule_of_task g t) h
+    → IsCounted g c k t (answer.Done given) (h ++ entry.Settled c k (granule_of_task g t) ∷ [])
+done_counted g c k t given h counts = record { before = h; after = []; parts = refl; last = refl; counts = counts }
 
 -- the first size that passes a test of generations, and its generation
 worn_found : (o : Option Size) (f : Size → ℕ) (a : Answer) → option_map (λ z. answer.Worn z (f z)) o ≡ Some a → (z : Size) × (o ≡ Some z) × (a ≡ answer.Worn z (f z))
@@ -100,7 +100,7 @@ worn_of_counts g c k t found a h worn =
       counted = count_in g.setup.first (granule_bytes g.setup) (granule_of_task g t) h parts.0;
     })
 
-pub worn_counted : (g : GeometryData) (c k : ℕ) (t : Task) (found : Gpi) (told : Generations) (a : Answer) (h : List Entry)
-    → told ≡ counts_around g.setup.first (granule_bytes g.setup) (granule_of_task g t) h → worn_answer told ≡ Some a
+pub worn_counted : (g : GeometryData) (c k : ℕ) (t : Task) (found : Gpi) (given : Generations) (a : Answer) (h : List Entry)
+    → given ≡ counts_around g.setup.first (granule_bytes g.setup) (granule_of_task g t) h → worn_answer given ≡ Some a
     → IsCounted g c k t a (h ++ entry.Refused c k (granule_of_task g t) found ∷ [])
-worn_counted g c k t found told a h counts worn = worn_of_counts g c k t found a h (subst (λ (x : Generations). worn_answer x ≡ Some a) counts worn)
+worn_counted g c k t found given a h counts worn = worn_of_counts g c k t found a h (subst (λ (x : Generations). worn_answer x ≡ Some a) counts worn)

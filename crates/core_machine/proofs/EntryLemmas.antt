@@ -59,13 +59,13 @@ FitsAnswer t (answer.Perm found) = is_needed (needed t) found ≡ false
 FitsAnswer t (answer.Seen access) = ⊥
 FitsAnswer t a = Unit {0}
 
-change_allowed : (g : GeometryData) (c k : ℕ) (t : Task) (told : Generations) (granule : ℕ) (from to : Gpi) → granule_of (granule_bytes g.setup) t ≡ Some granule
+change_allowed : (g : GeometryData) (c k : ℕ) (t : Task) (given : Generations) (granule : ℕ) (from to : Gpi) → granule_of (granule_bytes g.setup) t ≡ Some granule
     → granule < space_granules g.setup → IsChange t from to → is_transition t ≡ true
-    → All (IsOwnEntry g c k t (answer.Done told)) (entry.Changed c k granule from to ∷ entry.Settled c k granule ∷ [])
-change_allowed g c k t told granule from to here inside changes transition =
-    All-cons (IsOwnEntry g c k t (answer.Done told)) (entry.Changed c k granule from to) (entry.Settled c k granule ∷ [])
+    → All (IsOwnEntry g c k t (answer.Done given)) (entry.Changed c k granule from to ∷ entry.Settled c k granule ∷ [])
+change_allowed g c k t given granule from to here inside changes transition =
+    All-cons (IsOwnEntry g c k t (answer.Done given)) (entry.Changed c k granule from to) (entry.Settled c k granule ∷ [])
     (record { caller = refl; call = refl; allows = (refl, changes); granule = here; inside = inside })
-    (all_one (IsOwnEntry g c k t (answer.Done told)) (entry.Settled c k granule)
+    (all_one (IsOwnEntry g c k t (answer.Done given)) (entry.Settled c k granule)
     (record { caller = refl; call = refl; allows = (refl, transition); granule = here; inside = inside }))
 
 not_needed : (o : Option Gpi) (found : Gpi) → is_needed o found ≡ false → o ≡ Some found → ⊥
@@ -82,21 +82,21 @@ fitting_allowed g c k (task.Delegate pa source) (answer.Perm found) acts fits =
 fitting_allowed g c k (task.Delegate pa source) (answer.Worn z value) acts fits =
     all_one (IsOwnEntry g c k (task.Delegate pa source) (answer.Worn z value)) (entry.Refused c k (pa / granule_bytes g.setup) gpi.NonSecure)
     (record { caller = refl; call = refl; allows = refl; granule = refl; inside = acts_granule g (task.Delegate pa source) acts })
-fitting_allowed g c k (task.Delegate pa source) (answer.Done told) acts fits =
-    change_allowed g c k (task.Delegate pa source) told (pa / granule_bytes g.setup) gpi.NonSecure (own_of source) refl (acts_granule g (task.Delegate pa source) acts) (refl, refl) refl
+fitting_allowed g c k (task.Delegate pa source) (answer.Done given) acts fits =
+    change_allowed g c k (task.Delegate pa source) given (pa / granule_bytes g.setup) gpi.NonSecure (own_of source) refl (acts_granule g (task.Delegate pa source) acts) (refl, refl) refl
 fitting_allowed g c k (task.Undelegate pa source) (answer.Perm found) acts fits =
     all_one (IsOwnEntry g c k (task.Undelegate pa source) (answer.Perm found)) (entry.Refused c k (pa / granule_bytes g.setup) found)
     (record { caller = refl; call = refl; allows = (refl, not_needed (Some (own_of source)) found fits, refl); granule = refl; inside = acts_granule g (task.Undelegate pa source) acts })
 fitting_allowed g c k (task.Undelegate pa source) (answer.Worn z value) acts fits =
     all_one (IsOwnEntry g c k (task.Undelegate pa source) (answer.Worn z value)) (entry.Refused c k (pa / granule_bytes g.setup) (own_of source))
     (record { caller = refl; call = refl; allows = refl; granule = refl; inside = acts_granule g (task.Undelegate pa source) acts })
-fitting_allowed g c k (task.Undelegate pa source) (answer.Done told) acts fits =
+fitting_allowed g c k (task.Undelegate pa source) (answer.Done given) acts fits =
     let inside : pa / granule_bytes g.setup < space_granules g.setup = acts_granule g (task.Undelegate pa source) acts in
-    All-append (IsOwnEntry g c k (task.Undelegate pa source) (answer.Done told))
+    All-append (IsOwnEntry g c k (task.Undelegate pa source) (answer.Done given))
     (entry.Changed c k (pa / granule_bytes g.setup) (own_of source) gpi.NoAccess ∷ entry.Settled c k (pa / granule_bytes g.setup) ∷ [])
     (entry.Changed c k (pa / granule_bytes g.setup) gpi.NoAccess gpi.NonSecure ∷ entry.Settled c k (pa / granule_bytes g.setup) ∷ [])
-    (change_allowed g c k (task.Undelegate pa source) told (pa / granule_bytes g.setup) (own_of source) gpi.NoAccess refl inside (inl (refl, refl)) refl)
-    (change_allowed g c k (task.Undelegate pa source) told (pa / granule_bytes g.setup) gpi.NoAccess gpi.NonSecure refl inside (inr (refl, refl)) refl)
+    (change_allowed g c k (task.Undelegate pa source) given (pa / granule_bytes g.setup) (own_of source) gpi.NoAccess refl inside (inl (refl, refl)) refl)
+    (change_allowed g c k (task.Undelegate pa source) given (pa / granule_bytes g.setup) gpi.NoAccess gpi.NonSecure refl inside (inr (refl, refl)) refl)
 fitting_allowed g c k (task.Look pa space) (answer.Seen access) acts fits = absurd fits
 fitting_allowed g c k t a acts fits = All-nil (IsOwnEntry g c k t a)
 
@@ -114,12 +114,12 @@ worn_fits : (t : Task) (o : Option Size) (f : Size → ℕ) (a : Answer) → opt
 worn_fits t None f a worn = absurd cc
 worn_fits t (Some z) f a worn = subst (FitsAnswer t) (let is : answer.Worn z (f z) ≡ a = cc in is) tt
 
-pub decided_fits : (g : GeometryData) (c k : ℕ) (t : Task) (told : Answer) (events : List CallEvent) → Decides g c k t (Some told) events → FitsAnswer t told
-decided_fits g c k t told events decided =
+pub decided_fits : (g : GeometryData) (c k : ℕ) (t : Task) (given : Answer) (events : List CallEvent) → Decides g c k t (Some given) events → FitsAnswer t given
+decided_fits g c k t given events decided =
     elim decided [
-      | inl refused ↦ refused_fits t (word_gpi refused.word (granule_place g (address_of t))) told refused.refused
+      | inl refused ↦ refused_fits t (word_gpi refused.word (granule_place g (address_of t))) given refused.refused
       | inr later ↦ elim later [
-        | inl worn ↦ worn_fits t (find (λ z. is_worn (generation_in z worn.generations)) (size.Two ∷ size.ThirtyTwo ∷ size.FiveTwelve ∷ [])) (λ z. generation_in z worn.generations) told worn.worn
+        | inl worn ↦ worn_fits t (find (λ z. is_worn (generation_in z worn.generations)) (size.Two ∷ size.ThirtyTwo ∷ size.FiveTwelve ∷ [])) (λ z. generation_in z worn.generations) given worn.worn
         | inr done ↦ subst (FitsAnswer t) (sym done.is) tt
       ]
     ]
@@ -163,7 +163,7 @@ no_task_prefix g c k stage.Looking = refl
 no_task_prefix g c k (stage.Reading z kept) = refl
 no_task_prefix g c k (stage.Changing ch kept) = refl
 no_task_prefix g c k (stage.Raising ch z kept) = refl
-no_task_prefix g c k (stage.Releasing told) = refl
+no_task_prefix g c k (stage.Releasing given) = refl
 no_task_prefix g c k stage.Stopped = refl
 
 pub prefix_fits : (g : GeometryData) (c k : ℕ) (s : Stage) (o : Option Task) (events : List CallEvent) → IsStage s o → IsPrefix g c k s o events → IsPrefixFit g c k o (entries_at g c k s o)
@@ -171,9 +171,9 @@ prefix_fits g c k (stage.Changing ch kept) (Some t) events fits front = changing
 prefix_fits g c k (stage.Raising ch size.Two kept) (Some t) events fits front = raising_fits g c k t ch fits.0
 prefix_fits g c k (stage.Raising ch size.ThirtyTwo kept) (Some t) events fits front = raising_fits g c k t ch fits.0
 prefix_fits g c k (stage.Raising ch size.FiveTwelve kept) (Some t) events fits front = raising_fits g c k t ch fits.0
-prefix_fits g c k (stage.Releasing (Some told)) (Some t) events fits front =
-    let es : List Entry = call_entries (granule_bytes g.setup) c k t told in
-    (told, length es, sym (take_all (length es) es (omega arith)), decided_fits g c k t told events front)
+prefix_fits g c k (stage.Releasing (Some given)) (Some t) events fits front =
+    let es : List Entry = call_entries (granule_bytes g.setup) c k t given in
+    (given, length es, sym (take_all (length es) es (omega arith)), decided_fits g c k t given events front)
 prefix_fits g c k (stage.Releasing None) (Some t) events fits front = (answer.Inval, 0, refl, tt)
 prefix_fits g c k stage.Locking (Some t) events fits front = (answer.Inval, 0, refl, tt)
 prefix_fits g c k stage.Looking (Some t) events fits front = (answer.Inval, 0, refl, tt)
@@ -181,7 +181,7 @@ prefix_fits g c k (stage.Reading z kept) (Some t) events fits front = (answer.In
 prefix_fits g c k stage.Stopped (Some t) events fits front = (answer.Inval, 0, refl, tt)
 prefix_fits g c k s None events fits front = no_task_prefix g c k s
 
--- the entries of a front are allowed by an answer
+-- the entries of a prefix are allowed by an answer
 pub prefix_allowed : (g : GeometryData) (c k : ℕ) (t : Task) (made : List Entry) → idle_answer g t ≡ None → IsPrefixFit g c k (Some t) made
     → (a : Answer) × All (IsOwnEntry g c k t a) made
 prefix_allowed g c k t made acts fits =

@@ -23,7 +23,7 @@ use Rattle.core_machine.specs.declared.caller.Caller.{Caller}
 use Rattle.core_machine.specs.declared.caller.Caller.TheVariants as caller
 use Rattle.core_machine.specs.InnerCallers.{caller_next, caller_took, caller_answers}
 use Rattle.core_machine.specs.InnerInvariant.{IsMade}
-use Rattle.core_machine.specs.InnerMachine.{MachineData, StandsFor, after_act_of, after_turn_of, after_turn, after_turns}
+use Rattle.core_machine.specs.InnerMachine.{MachineData, InvariantFor, after_act_of, after_turn_of, after_turn, after_turns}
 use Rattle.core_machine.specs.InnerPlay.{caller_of, opening_of, played, outcome_of}
 use Rattle.core_machine.proofs.LawLemmas.{took_leaves}
 use Rattle.core_machine.specs.Scenarios.{geometry_of, task_of_ask, turns_in}
@@ -99,19 +99,19 @@ answers_fit g (s ∷ scripts) (x ∷ callers) made calls =
 
 -- ---- what is played
 
-pub played_answers : (s : Scenario) (first : List Gpi) (h : List Entry) → StandsFor first (played s) h → AreAnswersOf s.scripts (map caller_answers (played s).callers)
+pub played_answers : (s : Scenario) (first : List Gpi) (h : List Entry) → InvariantFor first (played s) h → AreAnswersOf s.scripts (map caller_answers (played s).callers)
 played_answers s first h stands =
     answers_fit (played s).geometry s.scripts (played s).callers stands.shape.made
     (turns_leave calls_of (opening_of s) (turns_in s) took_calls ∙ opening_calls (geometry_of s) s.scripts)
 
 -- what is left of what is played: all words, and answers of the scenario's calls
-pub size_of : {E : Type 0} (m : MachineData) (first : List Gpi) (h : List Entry) (r : Result Outcome E) → StandsFor first m h → IfOk r (λ outcome. outcome ≡ outcome_of m)
+pub size_of : {E : Type 0} (m : MachineData) (first : List Gpi) (h : List Entry) (r : Result Outcome E) → InvariantFor first m h → IfOk r (λ outcome. outcome ≡ outcome_of m)
     → IfOk r (λ outcome. length outcome.words ≡ word_count outcome.geometry)
 size_of m first h (Ok outcome) stands left =
     subst (λ (o : Outcome). length o.words ≡ word_count o.geometry) (sym left) stands.shape.size
 size_of m first h (Err e) stands left = tt
 
-pub answers_of : {E : Type 0} (s : Scenario) (first : List Gpi) (h : List Entry) (r : Result Outcome E) → StandsFor first (played s) h → IfOk r (λ outcome. outcome ≡ outcome_of (played s))
+pub answers_of : {E : Type 0} (s : Scenario) (first : List Gpi) (h : List Entry) (r : Result Outcome E) → InvariantFor first (played s) h → IfOk r (λ outcome. outcome ≡ outcome_of (played s))
     → IfOk r (λ outcome. AreAnswersOf s.scripts outcome.answers)
 answers_of s first h (Ok outcome) stands left =
     subst (λ (o : Outcome). AreAnswersOf s.scripts o.answers) (sym left) (played_answers s first h stands)

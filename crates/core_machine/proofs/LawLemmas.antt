@@ -22,7 +22,7 @@ use Rattle.delegate_ops.proofs.ScriptLemmas.{some_mapped, step_walks}
 use Rattle.core_machine.specs.declared.caller.Caller.{Caller}
 use Rattle.core_machine.specs.declared.caller.Caller.TheVariants as caller
 use Rattle.core_machine.specs.InnerCallers.{caller_took, made_by, MayTake}
-use Rattle.core_machine.specs.InnerInvariant.{IsMade, Stands}
+use Rattle.core_machine.specs.InnerInvariant.{IsMade, Invariant}
 use Rattle.core_machine.specs.InnerLaw.{OneActKeeps}
 use Rattle.core_machine.proofs.ActLemmas.{Acting}
 use Rattle.core_machine.proofs.LockActs.{ActKeeps, take_keeps, release_keeps}
@@ -83,10 +83,10 @@ agent_keeps first words callers h c a t stage.Stopped next acting made e = absur
 abbrev Keeps : GeometryData → List Gpi → List ℕ → List Caller → List Entry → ℕ → Caller → Act → Type 0
 Keeps g first words callers h c a t =
     (place_in t < length words) × MayTake a (answer_of t words)
-    × Stands g first (after_act t words) (set callers c (caller_took a (answer_of t words))) (h ++ made_by c a (answer_of t words))
+    × Invariant g first (after_act t words) (set callers c (caller_took a (answer_of t words))) (h ++ made_by c a (answer_of t words))
 
 agent_one : (first : List Gpi) (words : List ℕ) (callers : List Caller) (h : List Entry) (c : ℕ) (a : AgentData) (next : Act) (o : Option Task)
-    → Stands a.geometry first words callers h → slice_get callers c ≡ Some (caller.Agent a) → IsMade a.geometry (caller.Agent a) → task_of a ≡ o → option_and_then (act_at a.geometry a.stage) o ≡ Some next
+    → Invariant a.geometry first words callers h → slice_get callers c ≡ Some (caller.Agent a) → IsMade a.geometry (caller.Agent a) → task_of a ≡ o → option_and_then (act_at a.geometry a.stage) o ≡ Some next
     → Keeps a.geometry first words callers h c (caller.Agent a) next
 agent_one first words callers h c a next None stands at made under_way e = absurd cc
 agent_one first words callers h c a next (Some t) stands at made under_way e =
@@ -101,6 +101,6 @@ one_act g first words callers h c (caller.Cpu looks) t stands at next = absurd c
 one_act g first words callers h c (caller.Agent a) t stands at next =
     let within : c < length callers = slice_get_within callers c (caller.Agent a) at in
     let made : IsMade g (caller.Agent a) = subst (IsMade g) (get_or_from_slice_get callers c (caller.Agent a) (caller.Agent a) at) (stands.shape.made c (caller.Agent a) within) in
-    subst (λ (k : GeometryData). Stands k first words callers h → IsMade k (caller.Agent a) → Keeps k first words callers h c (caller.Agent a) t) made.0
+    subst (λ (k : GeometryData). Invariant k first words callers h → IsMade k (caller.Agent a) → Keeps k first words callers h c (caller.Agent a) t) made.0
     (λ stands_so made_so. agent_one first words callers h c a t (task_of a) stands_so at made_so refl next)
     stands made

@@ -17,7 +17,7 @@ use Rattle.history.specs.Entries.{granule_in, caller_in, call_in}
 use Rattle.history.specs.States.{State, start, after_entry}
 use Rattle.history.specs.Legality.{granule_of, CallAllows}
 use Rattle.history.specs.Calls as calls
-use Rattle.history.specs.Calls.{entries_by, call_entries, answered_entries, IsUnderWay, task_at, answer_at, Fits, IsLegalHistory, TellsCalls}
+use Rattle.history.specs.Calls.{entries_by, call_entries, answered_entries, IsUnderWay, task_at, answer_at, Fits, IsLegalHistory, HasCalls}
 use Rattle.delegate_ops.specs.declared.stage.Stage.{Stage}
 use Rattle.delegate_ops.specs.Agents.{AgentData, IsAgent, HasActs, IsStage, task_of}
 use Rattle.delegate_ops.specs.Script.{CallEvent, AreCallEvents}
@@ -25,7 +25,7 @@ use Rattle.core_machine.specs.declared.caller.Caller.{Caller}
 use Rattle.core_machine.specs.declared.caller.Caller.TheVariants as caller
 use Rattle.core_machine.specs.InnerCallers.{caller_answers, own_of}
 use Rattle.core_machine.specs.InnerCounted.{caller_tasks}
-use Rattle.core_machine.specs.InnerHistory.{AreAllowed, Tells}
+use Rattle.core_machine.specs.InnerHistory.{AreAllowed, IsHistoryOf}
 use Rattle.core_machine.specs.InnerInvariant.{IsMade}
 use Rattle.core_machine.proofs.AloneLemmas.{own_first}
 use Rattle.core_machine.proofs.LoadActs.{length_after}
@@ -46,11 +46,11 @@ pub record IsKnown (g : GeometryData) (tasks : List (List Task)) (answers : List
 
 known_of : (g : GeometryData) (tasks : List (List Task)) (answers : List (List Answer)) (c k : ℕ) (t : Task) (a : Answer) (e : Entry)
     → task_at tasks c k ≡ Some t → Fits (answer_at answers c k) a → IsOwnEntry g c k t a e → IsKnown g tasks answers e
-known_of g tasks answers c k t a e asks told own = record {
+known_of g tasks answers c k t a e asks given own = record {
   asked = t;
   answered = a;
   task = subst (λ (n : ℕ). task_at tasks n (call_in e) ≡ Some t) (sym own.caller) (subst (λ (n : ℕ). task_at tasks c n ≡ Some t) (sym own.call) asks);
-  answer = subst (λ (n : ℕ). Fits (answer_at answers n (call_in e)) a) (sym own.caller) (subst (λ (n : ℕ). Fits (answer_at answers c n) a) (sym own.call) told);
+  answer = subst (λ (n : ℕ). Fits (answer_at answers n (call_in e)) a) (sym own.caller) (subst (λ (n : ℕ). Fits (answer_at answers c n) a) (sym own.call) given);
   allows = own.allows;
   granule = own.granule;
   inside = own.inside;
@@ -81,32 +81,32 @@ answered_each Q g c k (t ∷ tasks) (a ∷ answers) events are each =
     (λ e own. each 0 t a e refl refl (subst (λ (n : ℕ). IsOwnEntry g c n t a e) (let here : k ≡ k + 0 = omega arith in here) own))
     (call_entries (granule_bytes g.setup) c k t a) (call_allowed g c k t a are.0 are.3))
     (answered_each Q g c (k + 1) tasks answers are.1 are.4
-    (λ j u b e asks told own. each (suc j) u b e asks told (subst (λ (n : ℕ). IsOwnEntry g c n u b e) (let there : k + 1 + j ≡ k + suc j = omega arith in there) own)))
+    (λ j u b e asks given own. each (suc j) u b e asks given (subst (λ (n : ℕ). IsOwnEntry g c n u b e) (let there : k + 1 + j ≡ k + suc j = omega arith in there) own)))
 
 prefix_known : (g : GeometryData) (tasks : List (List Task)) (answers : List (List Answer)) (c k : ℕ) (s : Stage) (o : Option Task) (events : List CallEvent)
     → IsStage s o → HasActs g o → IsPrefix g c k s o events → task_at tasks c k ≡ o → answer_at answers c k ≡ None → All (IsKnown g tasks answers) (entries_at g c k s o)
-prefix_known g tasks answers c k s None events fits acts front asks told =
+prefix_known g tasks answers c k s None events fits acts front asks given =
     subst (All (IsKnown g tasks answers)) (sym (prefix_fits g c k s None events fits front)) (All-nil (IsKnown g tasks answers))
-prefix_known g tasks answers c k s (Some t) events fits acts front asks told =
+prefix_known g tasks answers c k s (Some t) events fits acts front asks given =
     let own = prefix_allowed g c k t (entries_at g c k s (Some t)) acts (prefix_fits g c k s (Some t) events fits front) in
     All-weaker (IsOwnEntry g c k t own.0) (IsKnown g tasks answers)
-    (λ e is. known_of g tasks answers c k t own.0 e asks (fits_any (answer_at answers c k) own.0 told) is)
+    (λ e is. known_of g tasks answers c k t own.0 e asks (fits_any (answer_at answers c k) own.0 given) is)
     (entries_at g c k s (Some t)) own.1
 
 agent_known : (tasks : List (List Task)) (answers : List (List Answer)) (c : ℕ) (a : AgentData) (events : List CallEvent) → slice_get tasks c ≡ Some a.tasks → slice_get answers c ≡ Some a.answers
     → IsAgent a → HasWalked c a events → All (IsKnown a.geometry tasks answers) (own_of c (caller.Agent a))
-agent_known tasks answers c a events asks told agent stands =
+agent_known tasks answers c a events asks given agent stands =
     All-append (IsKnown a.geometry tasks answers)
     (answered_entries (granule_bytes a.geometry.setup) c 0 a.tasks a.answers)
     (entries_at a.geometry c (length a.answers) a.stage (task_of a))
     (answered_each (IsKnown a.geometry tasks answers) a.geometry c 0 a.tasks a.answers stands.calls stands.answered
     (λ j t b e task_is answer_is own.
     known_of a.geometry tasks answers c j t b e (own_task tasks c a.tasks j asks ∙ task_is)
-    (fits_given (answer_at answers c j) b (own_answer answers c a.answers j told ∙ answer_is))
+    (fits_given (answer_at answers c j) b (own_answer answers c a.answers j given ∙ answer_is))
     (subst (λ (n : ℕ). IsOwnEntry a.geometry c n t b e) (let number : 0 + j ≡ j = omega arith in number) own)))
     (prefix_known a.geometry tasks answers c (length a.answers) a.stage (task_of a) stands.last agent.stage agent.acts stands.under_way
     (own_task tasks c a.tasks (length a.answers) asks)
-    (own_answer answers c a.answers (length a.answers) told ∙ slice_get_past a.answers (length a.answers) (omega arith)))
+    (own_answer answers c a.answers (length a.answers) given ∙ slice_get_past a.answers (length a.answers) (omega arith)))
 
 -- ---- the entries of all callers
 
@@ -146,7 +146,7 @@ all_callers Q n (e ∷ h) each known =
     (subst (All Q) (own_first (caller_in e) e h (eq-eqb (caller_in e) (caller_in e) refl)) (each (caller_in e) (All-head (λ (x : Entry). caller_in x < n) e h known))))
     (all_callers Q n h (λ c low. own_rest Q c e h (each c low)) (All-tail (λ (x : Entry). caller_in x < n) e h known))
 
-all_known : (g : GeometryData) (first : List Gpi) (callers : List Caller) (h : List Entry) (tasks : List (List Task)) → Tells first callers h → HaveTasks tasks callers → AreMade g callers
+all_known : (g : GeometryData) (first : List Gpi) (callers : List Caller) (h : List Entry) (tasks : List (List Task)) → IsHistoryOf first callers h → HaveTasks tasks callers → AreMade g callers
     → All (IsKnown g tasks (map caller_answers callers)) h
 all_known g first callers h tasks tells have made =
     all_callers (IsKnown g tasks (map caller_answers callers)) (length callers) h
@@ -178,12 +178,12 @@ legal_from g tasks answers s (e ∷ h) known allowed size =
       legal_from g tasks answers (after_entry s e) h (All-tail (IsKnown g tasks answers) e h known) allowed.1 (length_after s e ∙ size),
     )
 
-pub made_legal : (g : GeometryData) (first : List Gpi) (callers : List Caller) (h : List Entry) (tasks : List (List Task)) → Tells first callers h → HaveTasks tasks callers → AreMade g callers
+pub made_legal : (g : GeometryData) (first : List Gpi) (callers : List Caller) (h : List Entry) (tasks : List (List Task)) → IsHistoryOf first callers h → HaveTasks tasks callers → AreMade g callers
     → length first ≡ space_granules g.setup → IsLegalHistory (granule_bytes g.setup) tasks (map caller_answers callers) (start first) h
 made_legal g first callers h tasks tells have made size =
     legal_from g tasks (map caller_answers callers) (start first) h (all_known g first callers h tasks tells have made) tells.allowed size
 
--- ---- it tells each call
+-- ---- it has each call
 
 under_way_of : (g : GeometryData) (c k : ℕ) (o : Option Task) (made : List Entry) → IsPrefixFit g c k o made → IsUnderWay (granule_bytes g.setup) c k o made
 under_way_of g c k None made fits = fits
@@ -198,7 +198,7 @@ agent_calls : (c : ℕ) (a : AgentData) (h : List Entry) (events : List CallEven
 agent_calls c a h events agent stands own = record {
   under_way = entries_at a.geometry c (length a.answers) a.stage (task_of a);
   in_order = own;
-  front = under_way_of a.geometry c (length a.answers) (task_of a) (entries_at a.geometry c (length a.answers) a.stage (task_of a))
+  beginning = under_way_of a.geometry c (length a.answers) (task_of a) (entries_at a.geometry c (length a.answers) a.stage (task_of a))
       (prefix_fits a.geometry c (length a.answers) a.stage (task_of a) stands.last agent.stage stands.under_way);
 }
 
@@ -210,7 +210,7 @@ cpu_calls : (bytes c : ℕ) (tasks : List Task) (h : List Entry) → entries_by 
 cpu_calls bytes c tasks h none = record {
   under_way = [];
   in_order = none ∙ ap (λ (es : List Entry). es ++ []) (sym (no_answers bytes c 0 tasks));
-  front = none_under_way bytes c 0 (slice_get tasks 0);
+  beginning = none_under_way bytes c 0 (slice_get tasks 0);
 }
 
 caller_calls : (g : GeometryData) (callers : List Caller) (h : List Entry) (tasks : List (List Task)) (c : ℕ) (x : Caller) (own : List Task) → slice_get callers c ≡ Some x
@@ -224,23 +224,23 @@ caller_calls g callers h tasks c (caller.Agent a) own at have made entries asks 
     (agent_calls c a h is.2 is.1 is.3 entries))
 caller_calls g callers h tasks c (caller.Cpu looks) own at have made entries asks = cpu_calls (granule_bytes g.setup) c own h entries
 
-told_calls : (g : GeometryData) (first : List Gpi) (callers : List Caller) (h : List Entry) (tasks : List (List Task)) (c : ℕ) (own : List Task) (told : List Answer)
-    → Tells first callers h → HaveTasks tasks callers → AreMade g callers → slice_get tasks c ≡ Some own → slice_get (map caller_answers callers) c ≡ Some told
-    → calls.AreCalls (granule_bytes g.setup) c own told h
-told_calls g first callers h tasks c own told tells have made asks answers =
+told_calls : (g : GeometryData) (first : List Gpi) (callers : List Caller) (h : List Entry) (tasks : List (List Task)) (c : ℕ) (own : List Task) (given : List Answer)
+    → IsHistoryOf first callers h → HaveTasks tasks callers → AreMade g callers → slice_get tasks c ≡ Some own → slice_get (map caller_answers callers) c ≡ Some given
+    → calls.AreCalls (granule_bytes g.setup) c own given h
+told_calls g first callers h tasks c own given tells have made asks answers =
     elim (slice_get_cases callers c).1 [
       | inl here ↦
           let given = answers_at callers c here.0 here.2 in
-          let same : caller_answers here.0 ≡ told = cc in
+          let same : caller_answers here.0 ≡ given = cc in
           subst (λ (list : List Answer). calls.AreCalls (granule_bytes g.setup) c own list h) same
           (caller_calls g callers h tasks c here.0 own here.2 have made (tells.own c here.0 here.2) asks)
       | inr past ↦
           absurd (let none : slice_get (map caller_answers callers) c ≡ None = slice_get-map caller_answers callers c ∙ ap (λ (o : Option Caller). option_map caller_answers o) past.1 in cc)
     ]
 
-pub made_calls : (g : GeometryData) (first : List Gpi) (callers : List Caller) (h : List Entry) (tasks : List (List Task)) → Tells first callers h → HaveTasks tasks callers → AreMade g callers
-    → length tasks ≡ length callers → TellsCalls (granule_bytes g.setup) tasks (map caller_answers callers) h
+pub made_calls : (g : GeometryData) (first : List Gpi) (callers : List Caller) (h : List Entry) (tasks : List (List Task)) → IsHistoryOf first callers h → HaveTasks tasks callers → AreMade g callers
+    → length tasks ≡ length callers → HasCalls (granule_bytes g.setup) tasks (map caller_answers callers) h
 made_calls g first callers h tasks tells have made count = record {
-  callers = λ c own told asks answers. told_calls g first callers h tasks c own told tells have made asks answers;
+  callers = λ c own given asks answers. told_calls g first callers h tasks c own given tells have made asks answers;
   known = subst (λ (n : ℕ). All (λ (e : Entry). caller_in e < n) h) (sym count) tells.known;
 }

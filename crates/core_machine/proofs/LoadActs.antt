@@ -45,13 +45,13 @@ use Rattle.core_machine.specs.InnerSeen.{comes_before, SeesWord, SeesGeneration,
 use Rattle.core_machine.specs.InnerOpened.{open_by, open_at}
 use Rattle.core_machine.specs.InnerRaised.{is_due_at}
 use Rattle.core_machine.specs.InnerCounted.{coming_at}
-use Rattle.core_machine.specs.InnerInvariant.{IsMade, Stands}
+use Rattle.core_machine.specs.InnerInvariant.{IsMade, Invariant}
 use Rattle.core_machine.proofs.TableLemmas.{granule_within, usable_aligned, word_readable, loaded_gpi}
 use Rattle.core_machine.proofs.OthersLemmas.{index_at, granule_address}
 use Rattle.core_machine.proofs.OpenedLemmas.{opened_stays, closed_here}
 use Rattle.core_machine.proofs.RaisedLemmas.{count_seen}
 use Rattle.core_machine.proofs.CountedLemmas.{count_more, worn_counted}
-use Rattle.core_machine.proofs.ActLemmas.{Acting, low_of, state_of, holder_of, mades_of, closed_of, quiet_keep, telling_keep}
+use Rattle.core_machine.proofs.ActLemmas.{Acting, low_of, state_of, holder_of, mades_of, closed_of, without_entry_keeps, with_entry_keeps}
 use Rattle.core_machine.proofs.LockActs.{ActKeeps}
 use Rattle.core_machine.specs.Facts.{IsCounted, generation_word}
 use Rattle.delegate_ops.specs.InnerEntries.{entries_at, known_entries, made_at}
@@ -72,16 +72,16 @@ state_length s (e ∷ h) = state_length (after_entry s e) h ∙ length_after s e
 get_there : (xs : List Gpi) (i : ℕ) → i < length xs → (x : Gpi) × (slice_get xs i ≡ Some x)
 get_there xs i within = (get_or xs i gpi.Any, slice_get-get_or xs i gpi.Any within)
 
--- ---- a load that tells nothing and goes on inside
+-- ---- a load that makes no entry and goes on inside
 
 pub load_quietly : (first : List Gpi) (words : List ℕ) (callers : List Caller) (h : List Entry) (c : ℕ) (a : AgentData) (t : Task) (s next : Stage) → Acting first words callers h c a t s → is_inside s ≡ true → is_inside next ≡ true
     → IsMade a.geometry (caller.Agent (goes_to (at_stage a s) next)) → open_at a.geometry next (Some t) ≡ open_at a.geometry s (Some t) → ((y : Size) → is_due_at next y ≡ is_due_at s y) → SeesAt a.geometry words next (Some t)
     → coming_at next ≡ [] → coming_at s ≡ [] → entries_at a.geometry c (length a.answers) next (Some t) ≡ entries_at a.geometry c (length a.answers) s (Some t)
-    → Stands a.geometry first words (set callers c (caller.Agent (goes_to (at_stage a s) next))) (h ++ [])
+    → Invariant a.geometry first words (set callers c (caller.Agent (goes_to (at_stage a s) next))) (h ++ [])
 load_quietly first words callers h c a t s next acting inside stays made open_same due_same sees no_answer none_before front =
     let stands = acting.stands in
     let me = caller.Agent (at_stage a s) in
-    quiet_keep first words words callers h c a me (caller.Agent (goes_to (at_stage a s) next)) stands acting.at
+    without_entry_keeps first words words callers h c a me (caller.Agent (goes_to (at_stage a s) next)) stands acting.at
     (record {
       size = refl;
       made = made;
@@ -94,28 +94,28 @@ load_quietly first words callers h c a t s next acting inside stays made open_sa
       raised = λ y region within. rw (due_same y) refl;
       alone = λ n has. stands.alone c n me acting.at (rw inside (rw stays at has));
       tasks = refl;
-      counted = λ k u told asked answered. stands.counted c k me u told acting.at asked (rw none_before (rw no_answer at answered));
+      counted = λ k u given asked answered. stands.counted c k me u given acting.at asked (rw none_before (rw no_answer at answered));
       own = rw acting.under_way (ap (λ (entries : List Entry). answered_entries (granule_bytes a.geometry.setup) c 0 a.tasks a.answers ++ entries) front);
     })
 
 -- ---- a refusal
 
 -- a closed granule that the map gives this GPI: the transition is refused with it
-pub refuse : (first : List Gpi) (words : List ℕ) (callers : List Caller) (h : List Entry) (c : ℕ) (a : AgentData) (t : Task) (s : Stage) (found : Gpi) (told : Answer) → Acting first words callers h c a t s → is_inside s ≡ true
-    → IsMade a.geometry (caller.Agent (goes_to (at_stage a s) (stage.Releasing (Some told)))) → open_at a.geometry s (Some t) ≡ [] → ((y : Size) → is_due_at s y ≡ false)
+pub refuse : (first : List Gpi) (words : List ℕ) (callers : List Caller) (h : List Entry) (c : ℕ) (a : AgentData) (t : Task) (s : Stage) (found : Gpi) (given : Answer) → Acting first words callers h c a t s → is_inside s ≡ true
+    → IsMade a.geometry (caller.Agent (goes_to (at_stage a s) (stage.Releasing (Some given)))) → open_at a.geometry s (Some t) ≡ [] → ((y : Size) → is_due_at s y ≡ false)
     → slice_get (state_of first h).map (granule_of_task a.geometry t) ≡ Some found
-    → known_entries a.geometry c (length a.answers) t (Some told) ≡ entry.Refused c (length a.answers) (granule_of_task a.geometry t) found ∷ []
+    → known_entries a.geometry c (length a.answers) t (Some given) ≡ entry.Refused c (length a.answers) (granule_of_task a.geometry t) found ∷ []
     → entries_at a.geometry c (length a.answers) s (Some t) ≡ []
-    → IsCounted a.geometry c (length a.answers) t told (h ++ entry.Refused c (length a.answers) (granule_of_task a.geometry t) found ∷ [])
-    → Stands a.geometry first words (set callers c (caller.Agent (goes_to (at_stage a s) (stage.Releasing (Some told))))) (h ++ known_entries a.geometry c (length a.answers) t (Some told))
-refuse first words callers h c a t s found told acting inside made open_none due_none gives entries front counted =
+    → IsCounted a.geometry c (length a.answers) t given (h ++ entry.Refused c (length a.answers) (granule_of_task a.geometry t) found ∷ [])
+    → Invariant a.geometry first words (set callers c (caller.Agent (goes_to (at_stage a s) (stage.Releasing (Some given))))) (h ++ known_entries a.geometry c (length a.answers) t (Some given))
+refuse first words callers h c a t s found given acting inside made open_none due_none gives entries front counted =
     let stands = acting.stands in
     let me = caller.Agent (at_stage a s) in
-    let next = stage.Releasing (Some told) in
+    let next = stage.Releasing (Some given) in
     let e = entry.Refused c (length a.answers) (granule_of_task a.geometry t) found in
     let own_open : open_by me ≡ [] = rw acting.under_way open_none in
     rw entries
-    (telling_keep first words words callers h c a t s next e acting
+    (with_entry_keeps first words words callers h c a t s next e acting
     (record {
       inside = inside;
       stays = refl;
@@ -133,7 +133,7 @@ refuse first words callers h c a t s found told acting inside made open_none due
       raised = λ y region within.
           rw (due_none y) (ap (λ (n : ℕ). generation_word a.geometry words y region + 0 + n)
           (omega (arith, count_more a.geometry.setup.first (granule_bytes a.geometry.setup) y region h e)));
-      coming = λ answer is. subst (λ (x : Answer). IsCounted a.geometry c (length a.answers) t x (h ++ e ∷ [])) (let same : told ≡ answer = cc in same) counted;
+      coming = λ answer is. subst (λ (x : Answer). IsCounted a.geometry c (length a.answers) t x (h ++ e ∷ [])) (let same : given ≡ answer = cc in same) counted;
       own = rw (acting.under_way, front) (ap (λ (made : List Entry). answered_entries (granule_bytes a.geometry.setup) c 0 a.tasks a.answers ++ made) entries ∙ ap (λ (made : List Entry). made ++ e ∷ []) (sym (append-nil (answered_entries (granule_bytes a.geometry.setup) c 0 a.tasks a.answers))));
     }))
 
@@ -172,21 +172,21 @@ not_refused (task.Undelegate pa source) found fine =
 not_refused task.Unknown found fine = absurd cc
 not_refused (task.Look pa space) found fine = absurd cc
 
--- a refused one is told the GPI, with one entry
-refused_with : (g : GeometryData) (c k : ℕ) (t : Task) (found : Gpi) (told : Answer) → idle_answer g t ≡ None → is_look t ≡ false → refusal_of t (Some found) ≡ Some told
-    → (told ≡ answer.Perm found) × (known_entries g c k t (Some told) ≡ entry.Refused c k (granule_of_task g t) found ∷ [])
-refused_with g c k (task.Delegate pa source) found told acts no_look refused =
+-- a refused one is answered the GPI, with one entry
+refused_with : (g : GeometryData) (c k : ℕ) (t : Task) (found : Gpi) (given : Answer) → idle_answer g t ≡ None → is_look t ≡ false → refusal_of t (Some found) ≡ Some given
+    → (given ≡ answer.Perm found) × (known_entries g c k t (Some given) ≡ entry.Refused c k (granule_of_task g t) found ∷ [])
+refused_with g c k (task.Delegate pa source) found given acts no_look refused =
     elim (cases_Bool (is_needed (Some gpi.NonSecure) found)) [
       | inl same ↦ absurd (let both = rw same at refused in cc)
-      | inr other ↦ (let both = rw other at refused in let perm : told ≡ answer.Perm found = cc in (perm, rw perm refl))
+      | inr other ↦ (let both = rw other at refused in let perm : given ≡ answer.Perm found = cc in (perm, rw perm refl))
     ]
-refused_with g c k (task.Undelegate pa source) found told acts no_look refused =
+refused_with g c k (task.Undelegate pa source) found given acts no_look refused =
     elim (cases_Bool (is_needed (Some (own_of source)) found)) [
       | inl same ↦ absurd (let both = rw same at refused in cc)
-      | inr other ↦ (let both = rw other at refused in let perm : told ≡ answer.Perm found = cc in (perm, rw perm refl))
+      | inr other ↦ (let both = rw other at refused in let perm : given ≡ answer.Perm found = cc in (perm, rw perm refl))
     ]
-refused_with g c k task.Unknown found told acts no_look refused = absurd cc
-refused_with g c k (task.Look pa space) found told acts no_look refused = absurd cc
+refused_with g c k task.Unknown found given acts no_look refused = absurd cc
+refused_with g c k (task.Look pa space) found given acts no_look refused = absurd cc
 
 none_before_two : (y : Size) → comes_before y size.Two ≡ false
 none_before_two size.Two = refl
@@ -197,7 +197,7 @@ looked_keeps : (first : List Gpi) (words : List ℕ) (callers : List Caller) (h 
     → l1_place_of a.geometry (address_of t) ≡ Some place → word_gpi (slice_index words place) (granule_place a.geometry (address_of t)) ≡ Some found
     → slice_get (state_of first h).map (granule_of_task a.geometry t) ≡ Some found → refusal_of t (Some found) ≡ o
     → IsMade a.geometry (caller.Agent (goes_to (at_stage a stage.Looking) (looked_stage o (slice_index words place))))
-    → Stands a.geometry first words (set callers c (caller.Agent (goes_to (at_stage a stage.Looking) (looked_stage o (slice_index words place))))) (h ++ known_entries a.geometry c (length a.answers) t o)
+    → Invariant a.geometry first words (set callers c (caller.Agent (goes_to (at_stage a stage.Looking) (looked_stage o (slice_index words place))))) (h ++ known_entries a.geometry c (length a.answers) t o)
 looked_keeps first words callers h c place a t found None acting there reads gives fine made =
     load_quietly first words callers h c a t stage.Looking (looked_stage None (slice_index words place)) acting refl refl made refl (λ y. refl)
     (record {
@@ -208,9 +208,9 @@ looked_keeps first words callers h c place a t found None acting there reads giv
       generations = λ y before. absurd (let both : true ≡ false = sym before ∙ none_before_two y in cc);
     })
     refl refl refl
-looked_keeps first words callers h c place a t found (Some told) acting there reads gives refused made =
-    let with = refused_with a.geometry c (length a.answers) t found told acting.acts (no_look_at (at_stage a stage.Looking) t acting.is acting.under_way) refused in
-    refuse first words callers h c a t stage.Looking found told acting refl made refl (λ y. refl) gives with.1 refl (subst (λ (x : Answer). IsCounted a.geometry c (length a.answers) t x (h ++ entry.Refused c (length a.answers) (granule_of_task a.geometry t) found ∷ [])) (sym with.0) tt)
+looked_keeps first words callers h c place a t found (Some given) acting there reads gives refused made =
+    let with = refused_with a.geometry c (length a.answers) t found given acting.acts (no_look_at (at_stage a stage.Looking) t acting.is acting.under_way) refused in
+    refuse first words callers h c a t stage.Looking found given acting refl made refl (λ y. refl) gives with.1 refl (subst (λ (x : Answer). IsCounted a.geometry c (length a.answers) t x (h ++ entry.Refused c (length a.answers) (granule_of_task a.geometry t) found ∷ [])) (sym with.0) tt)
 
 pub look_keeps : (first : List Gpi) (words : List ℕ) (callers : List Caller) (h : List Entry) (c place : ℕ) (a : AgentData) (t : Task) → Acting first words callers h c a t stage.Looking
     → l1_place_of a.geometry (address_of t) ≡ Some place → IsMade a.geometry (caller.Agent (took_at (at_stage a stage.Looking) t stage.Looking (slice_index words place)))
@@ -237,16 +237,16 @@ look_keeps first words callers h c place a t acting there made =
 -- ---- loading the generations
 
 -- a transition that needs this GPI and finds a worn generation is refused with it
-worn_with : (g : GeometryData) (c k : ℕ) (t : Task) (found : Gpi) (told : Answer) (z : Size) (value : ℕ) → needed t ≡ Some found → told ≡ answer.Worn z value
-    → known_entries g c k t (Some told) ≡ entry.Refused c k (granule_of_task g t) found ∷ []
-worn_with g c k (task.Delegate pa source) found told z value needs is = let same : gpi.NonSecure ≡ found = cc in rw (is, ← same) refl
-worn_with g c k (task.Undelegate pa source) found told z value needs is = let same : own_of source ≡ found = cc in rw (is, ← same) refl
-worn_with g c k task.Unknown found told z value needs is = absurd cc
-worn_with g c k (task.Look pa space) found told z value needs is = absurd cc
+worn_with : (g : GeometryData) (c k : ℕ) (t : Task) (found : Gpi) (given : Answer) (z : Size) (value : ℕ) → needed t ≡ Some found → given ≡ answer.Worn z value
+    → known_entries g c k t (Some given) ≡ entry.Refused c k (granule_of_task g t) found ∷ []
+worn_with g c k (task.Delegate pa source) found given z value needs is = let same : gpi.NonSecure ≡ found = cc in rw (is, ← same) refl
+worn_with g c k (task.Undelegate pa source) found given z value needs is = let same : own_of source ≡ found = cc in rw (is, ← same) refl
+worn_with g c k task.Unknown found given z value needs is = absurd cc
+worn_with g c k (task.Look pa space) found given z value needs is = absurd cc
 
-worn_is : (k : Generations) (o : Option Size) (told : Answer) → option_map (λ z. answer.Worn z (generation_in z k)) o ≡ Some told → (z : Size) × (told ≡ answer.Worn z (generation_in z k))
-worn_is k None told e = absurd cc
-worn_is k (Some z) told e = (z, cc)
+worn_is : (k : Generations) (o : Option Size) (given : Answer) → option_map (λ z. answer.Worn z (generation_in z k)) o ≡ Some given → (z : Size) × (given ≡ answer.Worn z (generation_in z k))
+worn_is k None given e = absurd cc
+worn_is k (Some z) given e = (z, cc)
 
 first_from : (t : Task) (found : Gpi) → needed t ≡ Some found → from_of t (first_change t) ≡ found
 first_from (task.Delegate pa source) found needs = cc
@@ -270,7 +270,7 @@ all_read : (first : List Gpi) (words : List ℕ) (callers : List Caller) (h : Li
     → SeesWord a.geometry words t k.word (needed t) → ((y : Size) → SeesGeneration a.geometry words t k.generations y) → needed t ≡ Some found
     → slice_get (state_of first h).map (granule_of_task a.geometry t) ≡ Some found → worn_answer k.generations ≡ o
     → IsMade a.geometry (caller.Agent (goes_to (at_stage a (stage.Reading size.FiveTwelve old_kept)) (read_all o t k)))
-    → Stands a.geometry first words (set callers c (caller.Agent (goes_to (at_stage a (stage.Reading size.FiveTwelve old_kept)) (read_all o t k)))) (h ++ known_entries a.geometry c (length a.answers) t o)
+    → Invariant a.geometry first words (set callers c (caller.Agent (goes_to (at_stage a (stage.Reading size.FiveTwelve old_kept)) (read_all o t k)))) (h ++ known_entries a.geometry c (length a.answers) t o)
 all_read first words callers h c a t old_kept k found None acting word generations needs gives fresh made =
     elim (cases_Bool (is_granules k.word)) [
       | inl granules ↦
@@ -286,7 +286,7 @@ all_read first words callers h c a t old_kept k found None acting word generatio
           rw contiguous
           (load_quietly first words callers h c a t (stage.Reading size.FiveTwelve old_kept) (stage.Releasing None) acting refl refl (rw contiguous at made) refl (λ y. refl) tt refl refl refl)
     ]
-all_read first words callers h c a t old_kept k found (Some told) acting word generations needs gives worn made =
+all_read first words callers h c a t old_kept k found (Some given) acting word generations needs gives worn made =
     let s = stage.Reading size.FiveTwelve old_kept in
     let stands = acting.stands in
     let holder = holder_of first words callers h c a t s acting refl in
@@ -294,9 +294,9 @@ all_read first words callers h c a t old_kept k found (Some told) acting word ge
     counts_from a.geometry.setup.first (granule_bytes a.geometry.setup) (granule_of_task a.geometry t) h k.generations
     (λ y. let seen = count_seen a.geometry words callers h c (at_stage a s) t k.generations y stands.locks (low_of first words callers h c a t s acting) holder (mades_of first words callers h c a t s acting) stands.generations (generations y) in
     omega (arith, seen)) in
-    let is = worn_is k.generations _ told worn in
-    refuse first words callers h c a t s found told acting refl made refl (λ y. refl) gives (worn_with a.geometry c (length a.answers) t found told is.0 (generation_in is.0 k.generations) needs is.1) refl
-    (worn_counted a.geometry c (length a.answers) t found k.generations told h counted worn)
+    let is = worn_is k.generations _ given worn in
+    refuse first words callers h c a t s found given acting refl made refl (λ y. refl) gives (worn_with a.geometry c (length a.answers) t found given is.0 (generation_in is.0 k.generations) needs is.1) refl
+    (worn_counted a.geometry c (length a.answers) t found k.generations given h counted worn)
 
 -- what is seen with the generation of this size loaded
 two_seen : (g : GeometryData) (words : List ℕ) (t : Task) (k : Kept) (old : ℕ) → old ≡ slice_index words (gen_place_of g size.Two (address_of t)) → (y : Size) → comes_before y size.ThirtyTwo ≡ true → SeesGeneration g words t (kept_read size.Two old k).generations y
@@ -340,7 +340,7 @@ found_of first words callers h c a t s word o acting sees =
 
 read_at : (first : List Gpi) (words : List ℕ) (callers : List Caller) (h : List Entry) (c : ℕ) (a : AgentData) (t : Task) (z : Size) (k : Kept) (old : ℕ) → Acting first words callers h c a t (stage.Reading z k)
     → old ≡ slice_index words (gen_place_of a.geometry z (address_of t)) → IsMade a.geometry (caller.Agent (goes_to (at_stage a (stage.Reading z k)) (read_stage t z (kept_read z old k))))
-    → Stands a.geometry first words (set callers c (caller.Agent (goes_to (at_stage a (stage.Reading z k)) (read_stage t z (kept_read z old k))))) (h ++ made_at a.geometry c (length a.answers) (stage.Reading z k) (Some t) old)
+    → Invariant a.geometry first words (set callers c (caller.Agent (goes_to (at_stage a (stage.Reading z k)) (read_stage t z (kept_read z old k))))) (h ++ made_at a.geometry c (length a.answers) (stage.Reading z k) (Some t) old)
 read_at first words callers h c a t size.Two k old acting is made =
     load_quietly first words callers h c a t (stage.Reading size.Two k) (stage.Reading size.ThirtyTwo (kept_read size.Two old k)) acting refl refl made refl (λ y. refl)
     (read_two a.geometry words t k old (seen_of first words callers h c a t (stage.Reading size.Two k) acting) is) refl refl refl

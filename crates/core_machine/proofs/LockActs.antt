@@ -32,7 +32,7 @@ use Rattle.core_machine.specs.InnerSeen.{Sees}
 use Rattle.core_machine.specs.InnerOpened.{open_by}
 use Rattle.core_machine.specs.InnerRaised.{is_due}
 use Rattle.core_machine.specs.InnerCounted.{known_answers, caller_tasks}
-use Rattle.core_machine.specs.InnerInvariant.{IsMade, Stands}
+use Rattle.core_machine.specs.InnerInvariant.{IsMade, Invariant}
 use Rattle.core_machine.proofs.IdleLemmas.{idle_lock}
 use Rattle.core_machine.proofs.ListLemmas.{get_append}
 use Rattle.core_machine.proofs.LockLemmas.{holder_bit, take_free, take_held, release_held}
@@ -40,7 +40,7 @@ use Rattle.core_machine.proofs.TableLemmas.{tables_keep, locks_apart}
 use Rattle.core_machine.proofs.OthersLemmas.{generation_low, lock_apart, others_see}
 use Rattle.core_machine.proofs.ToldLemmas.{answered_call}
 use Rattle.core_machine.proofs.AloneLemmas.{alone_starts, own_numbers, no_own}
-use Rattle.core_machine.proofs.ActLemmas.{Acting, low_of, lock_of_task, state_of, mades_of, quiet_keep}
+use Rattle.core_machine.proofs.ActLemmas.{Acting, low_of, lock_of_task, state_of, mades_of, without_entry_keeps}
 use Rattle.core_machine.specs.Facts.{IsCounted, generation_word}
 use Rattle.delegate_ops.specs.Script.{lock_bit_of}
 use Rattle.delegate_ops.specs.InnerEntries.{made_at}
@@ -50,7 +50,7 @@ use Rattle.delegate_ops.specs.Changing.{raised}
 abbrev pub ActKeeps : List Gpi → List ℕ → List Caller → List Entry → ℕ → AgentData → Task → Stage → Act → Type 0
 ActKeeps first words callers h c a t s next =
     (place_in next < length words) × IsReadable s (answer_of next words)
-    × Stands a.geometry first (after_act next words) (set callers c (caller.Agent (took_at (at_stage a s) t s (answer_of next words))))
+    × Invariant a.geometry first (after_act next words) (set callers c (caller.Agent (took_at (at_stage a s) t s (answer_of next words))))
     (h ++ made_at a.geometry c (length a.answers) s (Some t) (answer_of next words))
 
 -- the generation words aren't lock words
@@ -66,7 +66,7 @@ others_stay first words callers h c p v a t s acting low d y apart there =
 -- a call has no entry before it takes its lock
 none_yet : (first : List Gpi) (words : List ℕ) (callers : List Caller) (h : List Entry) (c : ℕ) (a : AgentData) (t : Task) → Acting first words callers h c a t stage.Locking → list_any (is_by c (length a.answers)) h ≡ false
 none_yet first words callers h c a t acting =
-    let own : entries_by c h ≡ answered_entries (granule_bytes a.geometry.setup) c 0 a.tasks a.answers = acting.stands.told.own c (caller.Agent (at_stage a stage.Locking)) acting.at ∙ append-nil _ in
+    let own : entries_by c h ≡ answered_entries (granule_bytes a.geometry.setup) c 0 a.tasks a.answers = acting.stands.history.own c (caller.Agent (at_stage a stage.Locking)) acting.at ∙ append-nil _ in
     let number : 0 + length a.answers ≡ length a.answers = omega arith in
     no_own c (length a.answers) h
     (ap (list_any (is_by c (length a.answers))) own ∙ subst (λ (k : ℕ). list_any (is_by c k) (answered_entries (granule_bytes a.geometry.setup) c 0 a.tasks a.answers) ≡ false) number (own_numbers (granule_bytes a.geometry.setup) c 0 a.tasks a.answers))
@@ -90,7 +90,7 @@ take_keeps first words callers h c a t acting made =
       elim (cases_Bool (eqb (bit_and word (2 ^ (n % 64))) 0)) [
         | inl free ↦
             rw free
-            (quiet_keep first words after callers h c a me (caller.Agent (goes_to (at_stage a stage.Locking) stage.Looking)) stands acting.at
+            (without_entry_keeps first words after callers h c a me (caller.Agent (goes_to (at_stage a stage.Locking) stage.Looking)) stands acting.at
             (record {
               size = length-set words (n / 64) _;
               made = rw free at made;
@@ -103,12 +103,12 @@ take_keeps first words callers h c a t acting made =
               raised = λ y region inside. ap (λ (k : ℕ). k + 0) (generation_stays a.geometry words (n / 64) _ y region row);
               alone = λ m has. alone_starts a.geometry.setup m c (length a.answers) h (none_yet first words callers h c a t acting);
               tasks = refl;
-              counted = λ k u told asked answered. stands.counted c k me u told acting.at asked answered;
+              counted = λ k u given asked answered. stands.counted c k me u given acting.at asked answered;
               own = refl;
             }))
         | inr held ↦
             rw held
-            (quiet_keep first words after callers h c a me (caller.Agent (waits_at (at_stage a stage.Locking))) stands acting.at
+            (without_entry_keeps first words after callers h c a me (caller.Agent (waits_at (at_stage a stage.Locking))) stands acting.at
             (record {
               size = length-set words (n / 64) _;
               made = rw held at made;
@@ -121,7 +121,7 @@ take_keeps first words callers h c a t acting made =
               raised = λ y region inside. ap (λ (k : ℕ). k + 0) (generation_stays a.geometry words (n / 64) _ y region row);
               alone = λ m has. absurd cc;
               tasks = refl;
-              counted = λ k u told asked answered. stands.counted c k me u told acting.at asked answered;
+              counted = λ k u given asked answered. stands.counted c k me u given acting.at asked answered;
               own = refl;
             }))
       ],
@@ -130,41 +130,41 @@ take_keeps first words callers h c a t acting made =
 -- ---- releasing it
 
 -- answers without acts count nothing
-idle_one : (g : GeometryData) (c k : ℕ) (t u : Task) (told : Answer) (h : List Entry) → idle_answer g t ≡ Some told → IsCounted g c k u told h
-idle_one g c k task.Unknown u told h idle = subst (λ (x : Answer). IsCounted g c k u x h) (let same : answer.Unknown ≡ told = cc in same) tt
-idle_one g c k (task.Delegate pa source) u told h idle =
+idle_one : (g : GeometryData) (c k : ℕ) (t u : Task) (given : Answer) (h : List Entry) → idle_answer g t ≡ Some given → IsCounted g c k u given h
+idle_one g c k task.Unknown u given h idle = subst (λ (x : Answer). IsCounted g c k u x h) (let same : answer.Unknown ≡ given = cc in same) tt
+idle_one g c k (task.Delegate pa source) u given h idle =
     elim (cases_Bool (is_unusable g pa)) [
-      | inl bad ↦ subst (λ (x : Answer). IsCounted g c k u x h) (let both = rw bad at idle in let same : answer.Inval ≡ told = cc in same) tt
+      | inl bad ↦ subst (λ (x : Answer). IsCounted g c k u x h) (let both = rw bad at idle in let same : answer.Inval ≡ given = cc in same) tt
       | inr good ↦ absurd (let both = rw good at idle in cc)
     ]
-idle_one g c k (task.Undelegate pa source) u told h idle =
+idle_one g c k (task.Undelegate pa source) u given h idle =
     elim (cases_Bool (is_unusable g pa)) [
-      | inl bad ↦ subst (λ (x : Answer). IsCounted g c k u x h) (let both = rw bad at idle in let same : answer.Inval ≡ told = cc in same) tt
+      | inl bad ↦ subst (λ (x : Answer). IsCounted g c k u x h) (let both = rw bad at idle in let same : answer.Inval ≡ given = cc in same) tt
       | inr good ↦ absurd (let both = rw good at idle in cc)
     ]
-idle_one g c k (task.Look pa space) u told h idle =
+idle_one g c k (task.Look pa space) u given h idle =
     elim (cases_Bool (is_unusable g pa)) [
-      | inl bad ↦ subst (λ (x : Answer). IsCounted g c k u x h) (let both = rw bad at idle in let same : answer.Inval ≡ told = cc in same) tt
+      | inl bad ↦ subst (λ (x : Answer). IsCounted g c k u x h) (let both = rw bad at idle in let same : answer.Inval ≡ given = cc in same) tt
       | inr good ↦ absurd (let both = rw good at idle in cc)
     ]
 
-idle_head : (g : GeometryData) (c k i : ℕ) (t : Task) (o : Option Answer) (answers : List Answer) (u : Task) (told : Answer) (h : List Entry) → idle_answer g t ≡ o
-    → ((j : ℕ) → slice_get answers j ≡ Some told → IsCounted g c k u told h) → slice_get (answered_first o answers) i ≡ Some told → IsCounted g c k u told h
-idle_head g c k i t None answers u told h idle rest there = absurd cc
-idle_head g c k zero t (Some x) answers u told h idle rest there = idle_one g c k t u told h (idle ∙ there)
-idle_head g c k (suc i) t (Some x) answers u told h idle rest there = rest i there
+idle_head : (g : GeometryData) (c k i : ℕ) (t : Task) (o : Option Answer) (answers : List Answer) (u : Task) (given : Answer) (h : List Entry) → idle_answer g t ≡ o
+    → ((j : ℕ) → slice_get answers j ≡ Some given → IsCounted g c k u given h) → slice_get (answered_first o answers) i ≡ Some given → IsCounted g c k u given h
+idle_head g c k i t None answers u given h idle rest there = absurd cc
+idle_head g c k zero t (Some x) answers u given h idle rest there = idle_one g c k t u given h (idle ∙ there)
+idle_head g c k (suc i) t (Some x) answers u given h idle rest there = rest i there
 
-pub idle_counted : (g : GeometryData) (c k i : ℕ) (tasks : List Task) (u : Task) (told : Answer) (h : List Entry) → slice_get (idle_answers g tasks) i ≡ Some told → IsCounted g c k u told h
-idle_counted g c k i [] u told h there = absurd cc
-idle_counted g c k i (t ∷ tasks) u told h there =
-    idle_head g c k i t (idle_answer g t) (idle_answers g tasks) u told h refl (λ j later. idle_counted g c k j tasks u told h later) there
+pub idle_counted : (g : GeometryData) (c k i : ℕ) (tasks : List Task) (u : Task) (given : Answer) (h : List Entry) → slice_get (idle_answers g tasks) i ≡ Some given → IsCounted g c k u given h
+idle_counted g c k i [] u given h there = absurd cc
+idle_counted g c k i (t ∷ tasks) u given h there =
+    idle_head g c k i t (idle_answer g t) (idle_answers g tasks) u given h refl (λ j later. idle_counted g c k j tasks u given h later) there
 
 -- a release that goes on to a caller that holds nothing
 released : (first : List Gpi) (words : List ℕ) (callers : List Caller) (h : List Entry) (c : ℕ) (a : AgentData) (t : Task) (o : Option Answer) (x : Caller) → Acting first words callers h c a t (stage.Releasing o)
     → IsMade a.geometry x → ((n : ℕ) → holds n x ≡ false) → open_by x ≡ [] → ((y : Size) (region : ℕ) → is_due y region x ≡ false) → ((after : List ℕ) → Sees after x) → caller_tasks x ≡ a.tasks
-    → ((k : ℕ) (u : Task) (told : Answer) → slice_get a.tasks k ≡ Some u → slice_get (known_answers x) k ≡ Some told → IsCounted a.geometry c k u told h)
+    → ((k : ℕ) (u : Task) (given : Answer) → slice_get a.tasks k ≡ Some u → slice_get (known_answers x) k ≡ Some given → IsCounted a.geometry c k u given h)
     → own_of c x ≡ own_of c (caller.Agent (at_stage a (stage.Releasing o)))
-    → Stands a.geometry first (after_act (release_act (lock_bit_of a.geometry t)) words) (set callers c x) (h ++ [])
+    → Invariant a.geometry first (after_act (release_act (lock_bit_of a.geometry t)) words) (set callers c x) (h ++ [])
 released first words callers h c a t o x acting made holds_none open_none due_none sees tasks counted own =
     let stands = acting.stands in
     let s = stage.Releasing o in
@@ -175,7 +175,7 @@ released first words callers h c a t o x acting made holds_none open_none due_no
     let me = caller.Agent (at_stage a s) in
     let has : holds n me ≡ true = rw acting.under_way (eq-eqb n n refl) in
     let set_bit : lock_bit words n ≡ 1 = holder_bit words callers c n me acting.at stands.locks low has in
-    quiet_keep first words (after_act (release_act (lock_bit_of a.geometry t)) words) callers h c a me x stands acting.at
+    without_entry_keeps first words (after_act (release_act (lock_bit_of a.geometry t)) words) callers h c a me x stands acting.at
     (record {
       size = length-set words (n / 64) _;
       made = made;
@@ -200,7 +200,7 @@ release_keeps first words callers h c a t None acting made =
       omega (arith, low, acting.stands.shape.size),
       tt,
       released first words callers h c a t None (caller.Agent (goes_to (at_stage a (stage.Releasing None)) stage.Stopped)) acting made (λ n. refl) refl (λ y region. refl) (λ after. tt) refl
-          (λ k u told asked answered. acting.stands.counted c k (caller.Agent (at_stage a (stage.Releasing None))) u told acting.at asked answered) (rw acting.under_way refl),
+          (λ k u given asked answered. acting.stands.counted c k (caller.Agent (at_stage a (stage.Releasing None))) u given acting.at asked answered) (rw acting.under_way refl),
     )
 release_keeps first words callers h c a t (Some answer) acting made =
     let low : lock_of_task a t < 128 = low_of first words callers h c a t (stage.Releasing (Some answer)) acting in
@@ -209,10 +209,10 @@ release_keeps first words callers h c a t (Some answer) acting made =
       omega (arith, low, acting.stands.shape.size),
       tt,
       released first words callers h c a t (Some answer) (caller.Agent (after_answer me answer)) acting made (λ n. refl) refl (λ y region. refl) (λ after. tt) refl
-          (λ k u told asked answered.
-          elim (get_append (a.answers ++ answer ∷ []) idle k told (subst (λ (answers : List Answer). slice_get answers k ≡ Some told) (append-nil ((a.answers ++ answer ∷ []) ++ idle)) answered)) [
-            | inl front ↦ acting.stands.counted c k (caller.Agent me) u told acting.at asked front.1
-            | inr back ↦ idle_counted a.geometry c k back.0 (drop (length a.answers + 1) a.tasks) u told h back.2
+          (λ k u given asked answered.
+          elim (get_append (a.answers ++ answer ∷ []) idle k given (subst (λ (answers : List Answer). slice_get answers k ≡ Some given) (append-nil ((a.answers ++ answer ∷ []) ++ idle)) answered)) [
+            | inl front ↦ acting.stands.counted c k (caller.Agent me) u given acting.at asked front.1
+            | inr back ↦ idle_counted a.geometry c k back.0 (drop (length a.answers + 1) a.tasks) u given h back.2
           ])
           (append-nil (answered_entries (granule_bytes a.geometry.setup) c 0 a.tasks ((a.answers ++ answer ∷ []) ++ idle))
           ∙ rw acting.under_way (answered_call a.geometry (granule_bytes a.geometry.setup) c a.tasks a.answers t answer acting.under_way)),

@@ -35,9 +35,9 @@ use Rattle.core_machine.specs.declared.caller.Caller.{Caller}
 use Rattle.core_machine.specs.declared.caller.Caller.TheVariants as caller
 use Rattle.core_machine.specs.InnerCallers.{caller_next, caller_took, own_of, MayTake}
 use Rattle.core_machine.specs.InnerLocks.{holds}
-use Rattle.core_machine.specs.InnerInvariant.{IsMade, Stands}
+use Rattle.core_machine.specs.InnerInvariant.{IsMade, Invariant}
 use Rattle.core_machine.specs.InnerOpening.{IsFresh, AreStarting}
-use Rattle.core_machine.specs.InnerMachine.{MachineData, StandsFor, after_act_of, told_of, after_turn_of, turn_told_of, after_turn, turn_told, after_turns, told_in}
+use Rattle.core_machine.specs.InnerMachine.{MachineData, InvariantFor, after_act_of, act_entries_of, after_turn_of, turn_entries_of, after_turn, turn_entries, after_turns, entries_in}
 use Rattle.core_machine.proofs.ListLemmas.{one}
 use Rattle.core_machine.proofs.ToldLemmas.{idle_entries}
 use Rattle.core_machine.proofs.LawLemmas.{one_act}
@@ -48,18 +48,18 @@ use Rattle.delegate_ops.specs.InnerScript.{HasWalked}
 
 -- ---- one turn
 
-act_stands : (first : List Gpi) (m : MachineData) (h : List Entry) (c : ℕ) (a : Caller) (o : Option Act) → StandsFor first m h → slice_get m.callers c ≡ Some a → caller_next a ≡ o
-    → StandsFor first (after_act_of m c a o) (h ++ told_of m c a o)
+act_stands : (first : List Gpi) (m : MachineData) (h : List Entry) (c : ℕ) (a : Caller) (o : Option Act) → InvariantFor first m h → slice_get m.callers c ≡ Some a → caller_next a ≡ o
+    → InvariantFor first (after_act_of m c a o) (h ++ act_entries_of m c a o)
 act_stands first m h c a None stands at next = rw (append-nil h) stands
 act_stands first m h c a (Some t) stands at next = (one_act m.geometry first m.words m.callers h c a t stands at next).2
 
-turn_stands_of : (first : List Gpi) (m : MachineData) (h : List Entry) (c : ℕ) (o : Option Caller) → StandsFor first m h → slice_get m.callers c ≡ o
-    → StandsFor first (after_turn_of m c o) (h ++ turn_told_of m c o)
+turn_stands_of : (first : List Gpi) (m : MachineData) (h : List Entry) (c : ℕ) (o : Option Caller) → InvariantFor first m h → slice_get m.callers c ≡ o
+    → InvariantFor first (after_turn_of m c o) (h ++ turn_entries_of m c o)
 turn_stands_of first m h c None stands at = rw (append-nil h) stands
 turn_stands_of first m h c (Some a) stands at = act_stands first m h c a (caller_next a) stands at refl
 
-pub turn_stands : (first : List Gpi) (m : MachineData) (h : List Entry) (c : ℕ) → StandsFor first m h → StandsFor first (after_turn m c) (h ++ turn_told m c)
-turn_stands first m h c stands = turn_stands_of first m h c (slice_get m.callers c) stands refl
+pub turn_holds : (first : List Gpi) (m : MachineData) (h : List Entry) (c : ℕ) → InvariantFor first m h → InvariantFor first (after_turn m c) (h ++ turn_entries m c)
+turn_holds first m h c stands = turn_stands_of first m h c (slice_get m.callers c) stands refl
 
 -- ---- the code's turn
 
@@ -68,7 +68,7 @@ found_at [] c a within here = absurd (omega arith)
 found_at (x ∷ callers) zero a within here = ap Some (sym here)
 found_at (x ∷ callers) (suc c) a within here = found_at callers c a (omega (arith, within)) here
 
-pub may_act : (first : List Gpi) (h : List Entry) (m : MachineData) (c : ℕ) (a : Caller) (t : Act) → StandsFor first m h → c < length m.callers → a ≡ get_or m.callers c a → caller_next a ≡ Some t
+pub may_act : (first : List Gpi) (h : List Entry) (m : MachineData) (c : ℕ) (a : Caller) (t : Act) → InvariantFor first m h → c < length m.callers → a ≡ get_or m.callers c a → caller_next a ≡ Some t
     → (place_in t < length m.words) × MayTake a (answer_of t m.words)
 may_act first h m c a t stands within here next =
     let kept = one_act m.geometry first m.words m.callers h c a t stands (found_at m.callers c a within here) next in
@@ -91,11 +91,11 @@ kept m c a within here next =
 
 -- ---- a list of turns
 
-pub turns_stand : (first : List Gpi) (m : MachineData) (h : List Entry) (turns : List ℕ) → StandsFor first m h → StandsFor first (after_turns m turns) (h ++ told_in m turns)
-turns_stand first m h [] stands = rw (append-nil h) stands
-turns_stand first m h (c ∷ turns) stands =
-    subst (StandsFor first (after_turns (after_turn m c) turns)) (append_assoc h (turn_told m c) (told_in (after_turn m c) turns))
-    (turns_stand first (after_turn m c) (h ++ turn_told m c) turns (turn_stands first m h c stands))
+pub turns_hold : (first : List Gpi) (m : MachineData) (h : List Entry) (turns : List ℕ) → InvariantFor first m h → InvariantFor first (after_turns m turns) (h ++ entries_in m turns)
+turns_hold first m h [] stands = rw (append-nil h) stands
+turns_hold first m h (c ∷ turns) stands =
+    subst (InvariantFor first (after_turns (after_turn m c) turns)) (append_assoc h (turn_entries m c) (entries_in (after_turn m c) turns))
+    (turns_hold first (after_turn m c) (h ++ turn_entries m c) turns (turn_holds first m h c stands))
 
 pub after_turns-append : (m : MachineData) (xs ys : List ℕ) → after_turns m (xs ++ ys) ≡ after_turns (after_turns m xs) ys
 after_turns-append m [] ys = refl
@@ -144,18 +144,18 @@ fresh_due : (g : GeometryData) (y : Size) (region : ℕ) (x : Caller) → IsFres
 fresh_due g y region (caller.Agent a) is = ap (λ (b : AgentData). is_due y region (caller.Agent b)) is.0
 fresh_due g y region (caller.Cpu looks) is = refl
 
-fresh_counted : (g : GeometryData) (c k : ℕ) (x : Caller) (u : Task) (told : Answer) → IsFresh g x → slice_get (known_answers x) k ≡ Some told → IsCounted g c k u told []
-fresh_counted g c k (caller.Agent a) u told is answered =
-    idle_counted g c k k a.tasks u told []
-    (subst (λ (answers : List Answer). slice_get answers k ≡ Some told) (ap (λ (b : AgentData). known_answers (caller.Agent b)) is.0 ∙ append-nil (idle_answers g a.tasks)) answered)
-fresh_counted g c k (caller.Cpu looks) u told is answered = absurd cc
+fresh_counted : (g : GeometryData) (c k : ℕ) (x : Caller) (u : Task) (given : Answer) → IsFresh g x → slice_get (known_answers x) k ≡ Some given → IsCounted g c k u given []
+fresh_counted g c k (caller.Agent a) u given is answered =
+    idle_counted g c k k a.tasks u given []
+    (subst (λ (answers : List Answer). slice_get answers k ≡ Some given) (ap (λ (b : AgentData). known_answers (caller.Agent b)) is.0 ∙ append-nil (idle_answers g a.tasks)) answered)
+fresh_counted g c k (caller.Cpu looks) u given is answered = absurd cc
 
 -- each caller of a fresh list is fresh
 fresh_at : (g : GeometryData) (callers : List Caller) (c : ℕ) (x : Caller) → All (IsFresh g) callers → slice_get callers c ≡ Some x → IsFresh g x
 fresh_at g callers c x fresh_all at = subst (IsFresh g) (get_or_from_slice_get callers c x x at) (fresh_all c x (slice_get_within callers c x at))
 
-pub opening_stands : (g : GeometryData) (first : List Gpi) (callers : List Caller) (words : List ℕ) → All (IsFresh g) callers → AreStarting g first words → Stands g first words callers []
-opening_stands g first callers words fresh_all starting = record {
+pub opening_invariant : (g : GeometryData) (first : List Gpi) (callers : List Caller) (words : List ℕ) → All (IsFresh g) callers → AreStarting g first words → Invariant g first words callers []
+opening_invariant g first callers words fresh_all starting = record {
   shape = record {
     geometry = starting.geometry;
     size = starting.size;
@@ -172,8 +172,8 @@ opening_stands g first callers words fresh_all starting = record {
       omega (arith, starting.generations y region within, count_none (is_due y region) callers (λ d x at. fresh_due g y region x (fresh_at g callers d x fresh_all at)));
   undisturbed = undisturbed_empty g.setup;
   alone = λ c n x at has. absurd (let none = fresh_holds g n x (fresh_at g callers c x fresh_all at) in let both : false ≡ true = sym none ∙ has in cc);
-  counted = λ c k x u told at asked answered. fresh_counted g c k x u told (fresh_at g callers c x fresh_all at) answered;
-  told = record {
+  counted = λ c k x u given at asked answered. fresh_counted g c k x u given (fresh_at g callers c x fresh_all at) answered;
+  history = record {
     allowed = tt;
     own = λ c x at. sym (fresh_own g c x (fresh_at g callers c x fresh_all at));
     known = All-nil (λ e. caller_in e < length callers);
@@ -199,9 +199,9 @@ turns_length m (c ∷ turns) = turns_length (after_turn m c) turns ∙ turn_leng
 pub turns_more : (m n : MachineData) (xs ys zs : List ℕ) → n ≡ after_turns m xs → zs ≡ xs ++ ys → after_turns n ys ≡ after_turns m zs
 turns_more m n xs ys zs so parts = ap (λ (k : MachineData). after_turns k ys) so ∙ sym (ap (after_turns m) parts ∙ after_turns-append m xs ys)
 
-pub stands_after : (m n : MachineData) (turns : List ℕ) → n ≡ after_turns m turns → ((first : List Gpi) × (h : List Entry) × StandsFor first m h) → (first : List Gpi) × (h : List Entry) × StandsFor first n h
-stands_after m n turns so stands =
-    (stands.0, stands.1 ++ told_in m turns, subst (λ (k : MachineData). StandsFor stands.0 k (stands.1 ++ told_in m turns)) (sym so) (turns_stand stands.0 m stands.1 turns stands.2))
+pub holds_after : (m n : MachineData) (turns : List ℕ) → n ≡ after_turns m turns → ((first : List Gpi) × (h : List Entry) × InvariantFor first m h) → (first : List Gpi) × (h : List Entry) × InvariantFor first n h
+holds_after m n turns so stands =
+    (stands.0, stands.1 ++ entries_in m turns, subst (λ (k : MachineData). InvariantFor stands.0 k (stands.1 ++ entries_in m turns)) (sym so) (turns_hold stands.0 m stands.1 turns stands.2))
 
 pub length_so : (m n : MachineData) (turns : List ℕ) → n ≡ after_turns m turns → length n.callers ≡ length m.callers
 length_so m n turns so = ap (λ (k : MachineData). length k.callers) so ∙ turns_length m turns

@@ -69,7 +69,7 @@ none_at g stage.Locking o granule apart = refl
 none_at g stage.Looking o granule apart = refl
 none_at g (stage.Reading z k) o granule apart = refl
 none_at g (stage.Changing c k) o granule apart = refl
-none_at g (stage.Releasing told) o granule apart = refl
+none_at g (stage.Releasing given) o granule apart = refl
 none_at g stage.Stopped o granule apart = refl
 
 -- the others hold nothing of a holder's granule open

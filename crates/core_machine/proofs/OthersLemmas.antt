@@ -182,7 +182,7 @@ seen_stays g words p v (stage.Changing c k) None apart sees = tt
 seen_stays g words p v (stage.Raising c z k) None apart sees = tt
 seen_stays g words p v stage.Locking o apart sees = tt
 seen_stays g words p v stage.Looking o apart sees = tt
-seen_stays g words p v (stage.Releasing told) o apart sees = tt
+seen_stays g words p v (stage.Releasing given) o apart sees = tt
 seen_stays g words p v stage.Stopped o apart sees = tt
 
 -- ---- a holder and another caller inside

@@ -25,10 +25,10 @@ use Rattle.delegate_ops.proofs.AgentLemmas.{idle_few, idle_then_acts, locking_fi
 use Rattle.core_machine.specs.declared.caller.Caller.{Caller}
 use Rattle.core_machine.specs.InnerCallers.{caller_next}
 use Rattle.core_machine.specs.InnerOpening.{IsFresh, AreStarting}
-use Rattle.core_machine.specs.InnerMachine.{MachineData, StandsFor, after_act_of, after_turn_of, after_turn, after_turns, told_in}
+use Rattle.core_machine.specs.InnerMachine.{MachineData, InvariantFor, after_act_of, after_turn_of, after_turn, after_turns, entries_in}
 use Rattle.core_machine.specs.InnerPlay.{caller_of, opening_of, NamesCaller, played}
 use Rattle.core_machine.proofs.CallLemmas.{asks_no_looks}
-use Rattle.core_machine.proofs.MachineLemmas.{opening_stands, turns_stand}
+use Rattle.core_machine.proofs.MachineLemmas.{opening_invariant, turns_hold}
 use Rattle.core_machine.proofs.OpeningLemmas.{built_starts}
 use Rattle.core_machine.specs.Scenarios.{IsAccepted, first_map, geometry_of, slot_turns, task_of_ask, turns_in}
 
@@ -86,12 +86,12 @@ turns_geometry m [] = refl
 turns_geometry m (c ∷ turns) = turns_geometry (after_turn m c) turns ∙ turn_geometry m c (slice_get m.callers c)
 
 -- the opening stands for the empty history, and what is played for the history of its trace
-pub opening_so : (s : Scenario) → IsAccepted s → IsGeometry (geometry_of s) → AreTables (tables_of s.setup s.regions) → StandsFor (first_map s) (opening_of s) []
+pub opening_so : (s : Scenario) → IsAccepted s → IsGeometry (geometry_of s) → AreTables (tables_of s.setup s.regions) → InvariantFor (first_map s) (opening_of s) []
 opening_so s accepted geometry tables =
-    opening_stands (geometry_of s) (first_map s) _ _ (callers_fresh (geometry_of s) s.scripts geometry) (opening_starts s accepted geometry tables)
+    opening_invariant (geometry_of s) (first_map s) _ _ (callers_fresh (geometry_of s) s.scripts geometry) (opening_starts s accepted geometry tables)
 
-pub played_so : (s : Scenario) → IsAccepted s → IsGeometry (geometry_of s) → AreTables (tables_of s.setup s.regions) → StandsFor (first_map s) (played s) (told_in (opening_of s) (turns_in s))
-played_so s accepted geometry tables = turns_stand (first_map s) (opening_of s) [] (turns_in s) (opening_so s accepted geometry tables)
+pub played_so : (s : Scenario) → IsAccepted s → IsGeometry (geometry_of s) → AreTables (tables_of s.setup s.regions) → InvariantFor (first_map s) (played s) (entries_in (opening_of s) (turns_in s))
+played_so s accepted geometry tables = turns_hold (first_map s) (opening_of s) [] (turns_in s) (opening_so s accepted geometry tables)
 
 -- ---- the code's machine
 
@@ -121,5 +121,5 @@ played_is s m n so turned =
     turned ∙ ap (λ (k : MachineData). after_turns k (flat_map (slot_turns (length m.callers)) s.schedule)) so
     ∙ ap (λ (count : ℕ). after_turns (opening_of s) (flat_map (slot_turns count) s.schedule)) (callers_of_opening s m so)
 
-pub played_stands : (s : Scenario) (m : MachineData) → m ≡ opening_of s → StandsFor (first_map s) m [] → StandsFor (first_map s) (played s) (told_in (opening_of s) (turns_in s))
-played_stands s m so stands = turns_stand (first_map s) (opening_of s) [] (turns_in s) (subst (λ (k : MachineData). StandsFor (first_map s) k []) so stands)
+pub played_stands : (s : Scenario) (m : MachineData) → m ≡ opening_of s → InvariantFor (first_map s) m [] → InvariantFor (first_map s) (played s) (entries_in (opening_of s) (turns_in s))
+played_stands s m so stands = turns_hold (first_map s) (opening_of s) [] (turns_in s) (subst (λ (k : MachineData). InvariantFor (first_map s) k []) so stands)

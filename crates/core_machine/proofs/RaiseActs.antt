@@ -36,7 +36,7 @@ use Rattle.core_machine.specs.InnerOpened.{open_by, open_at}
 use Rattle.core_machine.specs.InnerSeen.{comes_before, SeesGeneration, SeesAll, SeesAt}
 use Rattle.core_machine.specs.InnerRaised.{is_due_at, is_due}
 use Rattle.core_machine.specs.InnerCounted.{coming_at}
-use Rattle.core_machine.specs.InnerInvariant.{IsMade, Stands}
+use Rattle.core_machine.specs.InnerInvariant.{IsMade, Invariant}
 use Rattle.core_machine.proofs.IdleLemmas.{idle_generation}
 use Rattle.core_machine.proofs.ListLemmas.{one}
 use Rattle.core_machine.proofs.TableLemmas.{tables_keep, generations_apart}
@@ -44,7 +44,7 @@ use Rattle.core_machine.proofs.OthersLemmas.{generation_low, index_at, generatio
 use Rattle.core_machine.proofs.OpenedLemmas.{opened_settle, open_here}
 use Rattle.core_machine.proofs.RaisedLemmas.{count_seen}
 use Rattle.core_machine.proofs.CountedLemmas.{count_more, done_counted}
-use Rattle.core_machine.proofs.ActLemmas.{Acting, low_of, state_of, holder_of, mades_of, closed_of, other_lock, quiet_keep, telling_keep}
+use Rattle.core_machine.proofs.ActLemmas.{Acting, low_of, state_of, holder_of, mades_of, closed_of, other_lock, without_entry_keeps, with_entry_keeps}
 use Rattle.core_machine.proofs.LockActs.{ActKeeps}
 use Rattle.core_machine.proofs.LoadActs.{seen_of, counts_from}
 use Rattle.core_machine.proofs.ChangeActs.{locks_stay, generation_other}
@@ -171,7 +171,7 @@ raised_sum first words callers h c a t ch z k next acting low owes y region with
 raise_quietly : (first : List Gpi) (words : List ℕ) (callers : List Caller) (h : List Entry) (c : ℕ) (a : AgentData) (t : Task) (ch : Change) (z : Size) (k : Kept) (next : Size) → Acting first words callers h c a t (stage.Raising ch z k)
     → gen_place_of a.geometry z (address_of t) < length words → Owes ch z k (stage.Raising ch next (kept_raised z k))
     → IsMade a.geometry (caller.Agent (goes_to (at_stage a (stage.Raising ch z k)) (stage.Raising ch next (kept_raised z k))))
-    → Stands a.geometry first (set words (gen_place_of a.geometry z (address_of t)) (generation_in z k.generations + 1)) (set callers c (caller.Agent (goes_to (at_stage a (stage.Raising ch z k)) (stage.Raising ch next (kept_raised z k))))) (h ++ [])
+    → Invariant a.geometry first (set words (gen_place_of a.geometry z (address_of t)) (generation_in z k.generations + 1)) (set callers c (caller.Agent (goes_to (at_stage a (stage.Raising ch z k)) (stage.Raising ch next (kept_raised z k))))) (h ++ [])
 raise_quietly first words callers h c a t ch z k next acting low owes made =
     let g = a.geometry in
     let stands = acting.stands in
@@ -179,7 +179,7 @@ raise_quietly first words callers h c a t ch z k next acting low owes made =
     let me = caller.Agent (at_stage a s) in
     let place = gen_place_of g z (address_of t) in
     let inside = acts_inside g t acting.acts in
-    quiet_keep first words _ callers h c a me (caller.Agent (goes_to (at_stage a s) (stage.Raising ch next (kept_raised z k)))) stands acting.at
+    without_entry_keeps first words _ callers h c a me (caller.Agent (goes_to (at_stage a s) (stage.Raising ch next (kept_raised z k)))) stands acting.at
     (record {
       size = length-set words place _;
       made = made;
@@ -194,7 +194,7 @@ raise_quietly first words callers h c a t ch z k next acting low owes made =
       raised = raised_sum first words callers h c a t ch z k (stage.Raising ch next (kept_raised z k)) acting low owes;
       alone = λ n has. stands.alone c n me acting.at has;
       tasks = refl;
-      counted = λ k u told asked answered. stands.counted c k me u told acting.at asked answered;
+      counted = λ k u given asked answered. stands.counted c k me u given acting.at asked answered;
       own = rw acting.under_way refl;
     })
 
@@ -207,7 +207,7 @@ pub record Settles (g : GeometryData) (first : List Gpi) (words : List ℕ) (h :
   pub owes : Owes ch size.FiveTwelve kept next
   pub sees : SeesAll g words t (to_of t ch) (kept_raised size.FiveTwelve kept) → SeesAt g words next (Some t)
   pub front : entries_at g c k next (Some t) ≡ entries_at g c k (stage.Raising ch size.FiveTwelve kept) (Some t) ++ entry.Settled c k (granule_of_task g t) ∷ []
-  pub coming : (told : Answer) → coming_at next ≡ told ∷ [] → told ≡ answer.Done (kept_raised size.FiveTwelve kept).generations
+  pub coming : (given : Answer) → coming_at next ≡ given ∷ [] → given ≡ answer.Done (kept_raised size.FiveTwelve kept).generations
 
 settle_first : (g : GeometryData) (first : List Gpi) (words : List ℕ) (h : List Entry) (c k : ℕ) (t : Task) (kept : Kept) → IsChangeOf t change.First → Settles g first words h c k t change.First kept (stage.Changing change.Last (kept_raised size.FiveTwelve kept))
 settle_first g first words h c k (task.Undelegate pa source) kept is = record {
@@ -216,7 +216,7 @@ settle_first g first words h c k (task.Undelegate pa source) kept is = record {
   owes = record { own = refl; paid = refl; others = last_others };
   sees = λ sees. sees;
   front = refl;
-  coming = λ told e. absurd cc;
+  coming = λ given e. absurd cc;
 }
 settle_first g first words h c k (task.Delegate pa source) kept is = absurd is
 settle_first g first words h c k task.Unknown kept is = absurd is
@@ -225,9 +225,9 @@ settle_first g first words h c k (task.Look pa space) kept is = absurd is
 settle_last : (g : GeometryData) (first : List Gpi) (words : List ℕ) (h : List Entry) (c k : ℕ) (t : Task) (kept : Kept) → IsChangeOf t change.Last
     → Settles g first words h c k t change.Last kept (stage.Releasing (Some (answer.Done (kept_raised size.FiveTwelve kept).generations)))
 settle_last g first words h c k (task.Delegate pa source) kept is =
-    record { stays = refl; closes = refl; owes = record { own = refl; paid = refl; others = last_others }; sees = λ sees. tt; front = refl; coming = λ told e. cc }
+    record { stays = refl; closes = refl; owes = record { own = refl; paid = refl; others = last_others }; sees = λ sees. tt; front = refl; coming = λ given e. cc }
 settle_last g first words h c k (task.Undelegate pa source) kept is =
-    record { stays = refl; closes = refl; owes = record { own = refl; paid = refl; others = last_others }; sees = λ sees. tt; front = refl; coming = λ told e. cc }
+    record { stays = refl; closes = refl; owes = record { own = refl; paid = refl; others = last_others }; sees = λ sees. tt; front = refl; coming = λ given e. cc }
 settle_last g first words h c k task.Unknown kept is = absurd is
 settle_last g first words h c k (task.Look pa space) kept is = absurd is
 
@@ -251,7 +251,7 @@ raise_last : (first : List Gpi) (words : List ℕ) (callers : List Caller) (h : 
     → gen_place_of a.geometry size.FiveTwelve (address_of t) < length words
     → Settles a.geometry first (set words (gen_place_of a.geometry size.FiveTwelve (address_of t)) (k.generations.five_twelve + 1)) h c (length a.answers) t ch k next
     → IsMade a.geometry (caller.Agent (goes_to (at_stage a (stage.Raising ch size.FiveTwelve k)) next))
-    → Stands a.geometry first (set words (gen_place_of a.geometry size.FiveTwelve (address_of t)) (k.generations.five_twelve + 1)) (set callers c (caller.Agent (goes_to (at_stage a (stage.Raising ch size.FiveTwelve k)) next)))
+    → Invariant a.geometry first (set words (gen_place_of a.geometry size.FiveTwelve (address_of t)) (k.generations.five_twelve + 1)) (set callers c (caller.Agent (goes_to (at_stage a (stage.Raising ch size.FiveTwelve k)) next)))
     (h ++ entry.Settled c (length a.answers) (granule_of_task a.geometry t) ∷ [])
 raise_last first words callers h c a t ch k next acting low settles made =
     let g = a.geometry in
@@ -268,7 +268,7 @@ raise_last first words callers h c a t ch k next acting low settles made =
     let sees : SeesAll g words t (to_of t ch) k = seen_of first words callers h c a t s acting in
     let own_open : open_by me ≡ (granule, from_of t ch) ∷ [] = rw acting.under_way refl in
     let own_closed : open_by x ≡ [] = rw acting.under_way settles.closes in
-    telling_keep first words _ callers h c a t s next e acting
+    with_entry_keeps first words _ callers h c a t s next e acting
     (record {
       inside = refl;
       stays = settles.stays;
@@ -287,8 +287,8 @@ raise_last first words callers h c a t ch k next acting low settles made =
           (λ b u theirs. generation_apart g size.FiveTwelve (address_of t) u stands.shape.geometry inside (acts_inside g u theirs.acts) (other_lock first words callers h c a t s acting refl d b u apart theirs)) (stands.seen d y at);
       raised = λ y region within.
           omega (arith, raised_sum first words callers h c a t ch size.FiveTwelve k next acting low settles.owes y region within, count_more g.setup.first (granule_bytes g.setup) y region h e);
-      coming = λ told is.
-          subst (λ (x : Answer). IsCounted g c (length a.answers) t x (h ++ e ∷ [])) (sym (settles.coming told is))
+      coming = λ given is.
+          subst (λ (x : Answer). IsCounted g c (length a.answers) t x (h ++ e ∷ [])) (sym (settles.coming given is))
           (done_counted g c (length a.answers) t (kept_raised size.FiveTwelve k).generations h
           (counts_from g.setup.first (granule_bytes g.setup) granule h (kept_raised size.FiveTwelve k).generations
           (settled_counts first words callers h c a t ch k acting sees)));
@@ -299,7 +299,7 @@ raise_last first words callers h c a t ch k next acting low settles made =
 
 raise_at : (first : List Gpi) (words : List ℕ) (callers : List Caller) (h : List Entry) (c : ℕ) (a : AgentData) (t : Task) (ch : Change) (z : Size) (k : Kept) → Acting first words callers h c a t (stage.Raising ch z k)
     → gen_place_of a.geometry z (address_of t) < length words → IsChangeOf t ch → IsMade a.geometry (caller.Agent (goes_to (at_stage a (stage.Raising ch z k)) (raised_stage ch z (kept_raised z k))))
-    → Stands a.geometry first (set words (gen_place_of a.geometry z (address_of t)) (generation_in z k.generations + 1)) (set callers c (caller.Agent (goes_to (at_stage a (stage.Raising ch z k)) (raised_stage ch z (kept_raised z k)))))
+    → Invariant a.geometry first (set words (gen_place_of a.geometry z (address_of t)) (generation_in z k.generations + 1)) (set callers c (caller.Agent (goes_to (at_stage a (stage.Raising ch z k)) (raised_stage ch z (kept_raised z k)))))
     (h ++ made_at a.geometry c (length a.answers) (stage.Raising ch z k) (Some t) 0)
 raise_at first words callers h c a t ch size.Two k acting low is made = raise_quietly first words callers h c a t ch size.Two k size.ThirtyTwo acting low (owes_two ch k _) made
 raise_at first words callers h c a t ch size.ThirtyTwo k acting low is made = raise_quietly first words callers h c a t ch size.ThirtyTwo k size.FiveTwelve acting low (owes_thirty_two ch k _) made

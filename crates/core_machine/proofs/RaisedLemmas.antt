@@ -52,7 +52,7 @@ due_apart g stage.Locking o y region apart = refl
 due_apart g stage.Looking o y region apart = refl
 due_apart g (stage.Reading z k) o y region apart = refl
 due_apart g (stage.Changing c k) o y region apart = refl
-due_apart g (stage.Releasing told) o y region apart = refl
+due_apart g (stage.Releasing given) o y region apart = refl
 due_apart g stage.Stopped o y region apart = refl
 
 pub others_raised : (g : GeometryData) (words : List ℕ) (callers : List Caller) (c d : ℕ) (a : AgentData) (t : Task) (y : Size) (z : Caller) → LocksAreHeld words callers → lock_number g.setup (address_of t) < 128

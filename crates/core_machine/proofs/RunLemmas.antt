@@ -41,8 +41,8 @@ use Rattle.core_machine.specs.InnerCallers.{caller_next, caller_took, caller_ans
 use Rattle.core_machine.specs.InnerLocks.{is_inside, holds}
 use Rattle.core_machine.specs.InnerRaised.{is_due_at, is_around, is_due}
 use Rattle.core_machine.specs.InnerCounted.{coming_at, caller_tasks}
-use Rattle.core_machine.specs.InnerInvariant.{IsMade, Stands}
-use Rattle.core_machine.specs.InnerMachine.{MachineData, StandsFor, after_act_of, event_of, after_turn_of, turn_event_of, turn_told, after_turn, after_turns, trace_of, told_in}
+use Rattle.core_machine.specs.InnerInvariant.{IsMade, Invariant}
+use Rattle.core_machine.specs.InnerMachine.{MachineData, InvariantFor, after_act_of, event_of, after_turn_of, turn_event_of, turn_entries, after_turn, after_turns, trace_of, entries_in}
 use Rattle.core_machine.specs.InnerPlay.{caller_of, opening_of, played, outcome_of, played_trace}
 use Rattle.core_machine.proofs.ListLemmas.{one, get_set, get_front}
 use Rattle.core_machine.proofs.LockLemmas.{holder_bit}
@@ -50,8 +50,8 @@ use Rattle.core_machine.proofs.OthersLemmas.{Holder, made_at_place, is_holder, h
 use Rattle.core_machine.proofs.RaisedLemmas.{others_raised}
 use Rattle.core_machine.proofs.ActLemmas.{lock_low}
 use Rattle.core_machine.proofs.LoadActs.{state_length}
-use Rattle.core_machine.proofs.MachineLemmas.{turns_stand}
-use Rattle.core_machine.proofs.TraceLemmas.{played_walked, trace_told, trace_words, trace_answered, IsDone, done_stays, turns_taken, trace_known, trace_counts}
+use Rattle.core_machine.proofs.MachineLemmas.{turns_hold}
+use Rattle.core_machine.proofs.TraceLemmas.{played_walked, trace_entries, trace_words, trace_answered, IsDone, done_stays, turns_taken, trace_known, trace_counts}
 use Rattle.core_machine.proofs.AnswerLemmas.{calls_cause, alone_told, worn_told}
 use Rattle.core_machine.proofs.PartLemmas.{tables_told, canonical_told}
 use Rattle.delegate_ops.proofs.FollowLemmas.{walked_follows, walked_ended}
@@ -100,18 +100,18 @@ many_tasks s =
 
 -- ---- counts
 
-answered_at : (callers : List Caller) (c k : ℕ) (told : Answer) → answer_at (map caller_answers callers) c k ≡ Some told → (a : AgentData) × (slice_get callers c ≡ Some (caller.Agent a)) × (slice_get a.answers k ≡ Some told)
-answered_at [] c k told answered = absurd cc
-answered_at (caller.Agent a ∷ callers) zero k told answered = (a, refl, answered)
-answered_at (caller.Cpu looks ∷ callers) zero k told answered = absurd cc
-answered_at (x ∷ callers) (suc c) k told answered = answered_at callers c k told answered
+answered_at : (callers : List Caller) (c k : ℕ) (given : Answer) → answer_at (map caller_answers callers) c k ≡ Some given → (a : AgentData) × (slice_get callers c ≡ Some (caller.Agent a)) × (slice_get a.answers k ≡ Some given)
+answered_at [] c k given answered = absurd cc
+answered_at (caller.Agent a ∷ callers) zero k given answered = (a, refl, answered)
+answered_at (caller.Cpu looks ∷ callers) zero k given answered = absurd cc
+answered_at (x ∷ callers) (suc c) k given answered = answered_at callers c k given answered
 
-pub counts_told : (g : GeometryData) (first : List Gpi) (words : List ℕ) (callers : List Caller) (h : List Entry) (tasks : List (List Task)) → Stands g first words callers h → HaveTasks tasks callers
-    → (c k : ℕ) (t : Task) (told : Answer) → task_at tasks c k ≡ Some t → answer_at (map caller_answers callers) c k ≡ Some told → IsCounted g c k t told h
-counts_told g first words callers h tasks stands have c k t told asked answered =
-    let own = answered_at callers c k told answered in
+pub counts_told : (g : GeometryData) (first : List Gpi) (words : List ℕ) (callers : List Caller) (h : List Entry) (tasks : List (List Task)) → Invariant g first words callers h → HaveTasks tasks callers
+    → (c k : ℕ) (t : Task) (given : Answer) → task_at tasks c k ≡ Some t → answer_at (map caller_answers callers) c k ≡ Some given → IsCounted g c k t given h
+counts_told g first words callers h tasks stands have c k t given asked answered =
+    let own = answered_at callers c k given answered in
     let task : slice_get own.0.tasks k ≡ Some t = rw (have c own.0 own.1) at asked in
-    stands.counted c k (caller.Agent own.0) t told own.1 task (get_front own.0.answers (coming_at own.0.stage) k told own.2)
+    stands.counted c k (caller.Agent own.0) t given own.1 task (get_front own.0.answers (coming_at own.0.stage) k given own.2)
 
 -- ---- generations
 
@@ -141,7 +141,7 @@ due_task g stage.Locking o y region due = absurd cc
 due_task g stage.Looking o y region due = absurd cc
 due_task g (stage.Reading z k) o y region due = absurd cc
 due_task g (stage.Changing c k) o y region due = absurd cc
-due_task g (stage.Releasing told) o y region due = absurd cc
+due_task g (stage.Releasing given) o y region due = absurd cc
 due_task g stage.Stopped o y region due = absurd cc
 
 due_holder : (g : GeometryData) (callers : List Caller) (c : ℕ) (x : Caller) (y : Size) (region : ℕ) → slice_get callers c ≡ Some x → IsMade g x → is_due y region x ≡ true
@@ -156,7 +156,7 @@ size_some size.Two = omega arith
 size_some size.ThirtyTwo = omega arith
 size_some size.FiveTwelve = omega arith
 
-pub generations_told : (g : GeometryData) (first : List Gpi) (words : List ℕ) (callers : List Caller) (h : List Entry) → Stands g first words callers h → (y : Size) (region : ℕ) → region < blocks_in_region y * g.setup.gigabytes
+pub generations_told : (g : GeometryData) (first : List Gpi) (words : List ℕ) (callers : List Caller) (h : List Entry) → Invariant g first words callers h → (y : Size) (region : ℕ) → region < blocks_in_region y * g.setup.gigabytes
     → (generation_word g words y region ≡ count_of g.setup.first (granule_bytes g.setup) y region h)
     ⊎ ((generation_word g words y region + 1 ≡ count_of g.setup.first (granule_bytes g.setup) y region h) × (lock_bit words (lock_number g.setup (region * size_bytes y)) ≡ 1))
 generations_told g first words callers h stands y region within =
@@ -206,7 +206,7 @@ all_answered tasks callers c (caller.Agent a) have at ended =
           (rw (answers_of_caller callers c (caller.Agent a) at) (slice_get_past a.answers (length a.answers) (omega arith))))
     ]
 
-pub locks_ended : (g : GeometryData) (first : List Gpi) (words : List ℕ) (callers : List Caller) (h : List Entry) (tasks : List (List Task)) → Stands g first words callers h → HaveTasks tasks callers
+pub locks_ended : (g : GeometryData) (first : List Gpi) (words : List ℕ) (callers : List Caller) (h : List Entry) (tasks : List (List Task)) → Invariant g first words callers h → HaveTasks tasks callers
     → ((d k : ℕ) (t : Task) → task_at tasks d k ≡ Some t → answer_at (map caller_answers callers) d k ≡ None → ⊥) → (n : ℕ) → n < 128 → lock_bit words n ≡ 0
 locks_ended g first words callers h tasks stands have ended n below =
     stands.locks n below
@@ -215,25 +215,25 @@ locks_ended g first words callers h tasks stands have ended n below =
 
 -- ---- causes
 
-causes_told : (g : GeometryData) (callers : List Caller) (tasks : List (List Task)) → HaveTasks tasks callers → AreMade g callers → (c k : ℕ) (t : Task) (told : Answer) → task_at tasks c k ≡ Some t
-    → answer_at (map caller_answers callers) c k ≡ Some told → HasCause g t told
-causes_told g callers tasks have made c k t told asked answered =
-    let own = answered_at callers c k told answered in
+causes_told : (g : GeometryData) (callers : List Caller) (tasks : List (List Task)) → HaveTasks tasks callers → AreMade g callers → (c k : ℕ) (t : Task) (given : Answer) → task_at tasks c k ≡ Some t
+    → answer_at (map caller_answers callers) c k ≡ Some given → HasCause g t given
+causes_told g callers tasks have made c k t given asked answered =
+    let own = answered_at callers c k given answered in
     let is = made c own.0 own.1 in
     let task : slice_get own.0.tasks k ≡ Some t = rw (have c own.0 own.1) at asked in
-    subst (λ (v : GeometryData). HasCause v t told) is.0 (calls_cause own.0.geometry c 0 k own.0.tasks own.0.answers is.3.calls t told is.3.answered task own.2)
+    subst (λ (v : GeometryData). HasCause v t given) is.0 (calls_cause own.0.geometry c 0 k own.0.tasks own.0.answers is.3.calls t given is.3.answered task own.2)
 
 -- ---- facts over plain data
 
-pub fits_history : (g : GeometryData) (first : List Gpi) (words : List ℕ) (callers : List Caller) (h : List Entry) (tasks : List (List Task)) → Stands g first words callers h → HaveTasks tasks callers → AreMade g callers
+pub fits_history : (g : GeometryData) (first : List Gpi) (words : List ℕ) (callers : List Caller) (h : List Entry) (tasks : List (List Task)) → Invariant g first words callers h → HaveTasks tasks callers → AreMade g callers
     → length tasks ≡ length callers → FitsHistory g first tasks (map caller_answers callers) words h
 fits_history g first words callers h tasks stands have made count =
     let whole : length (state_after (start first) h).map ≡ space_granules g.setup = state_length (start first) h ∙ stands.shape.granules in
     record {
       many = length-map callers caller_answers ∙ sym count;
       size = stands.shape.size;
-      legal = made_legal g first callers h tasks stands.told have made stands.shape.granules;
-      calls = made_calls g first callers h tasks stands.told have made count;
+      legal = made_legal g first callers h tasks stands.history have made stands.shape.granules;
+      calls = made_calls g first callers h tasks stands.history have made count;
       causes = causes_told g callers tasks have made;
       counts = counts_told g first words callers h tasks stands have;
       worn = worn_told g first words callers h tasks stands have made;
@@ -271,7 +271,7 @@ opening_cpu g scripts c looks at = slice_get-map (caller_of g) scripts c ∙ ap 
 own_answers : (answers own : List Answer) (o : Option (List Answer)) → o ≡ Some answers → o ≡ Some own → own ≡ answers
 own_answers answers own o is given = let both : Some own ≡ Some answers = sym given ∙ is in cc
 
-follows_of : (s : Scenario) (c : ℕ) (own : Script) (x : Caller) → StandsFor (first_map s) (opening_of s) [] → AreMade (geometry_of s) (played s).callers → slice_get s.scripts c ≡ Some own → slice_get (played s).callers c ≡ Some x
+follows_of : (s : Scenario) (c : ℕ) (own : Script) (x : Caller) → InvariantFor (first_map s) (opening_of s) [] → AreMade (geometry_of s) (played s).callers → slice_get s.scripts c ≡ Some own → slice_get (played s).callers c ≡ Some x
     → agent_tasks x ≡ script_tasks own → FollowsScript (geometry_of s) c own (caller_answers x) (events_of c (played_trace s))
 unfolding script_tasks
 follows_of s c (script.Agent asks) (caller.Agent a) opening made given at same =
@@ -289,7 +289,7 @@ follows_of s c (script.Cpu looks) (caller.Cpu n) opening made given at same =
 has_no_next : (a : AgentData) → IsAgent a → next_of a ≡ None → has_ended a ≡ true
 has_no_next a is none = elim (cases_Bool (has_ended a)) [ inl ended ↦ ended | inr other ↦ absurd (let there = next_there a is in let both : is_some (next_of a) ≡ true = there ∙ ap not other in let no : is_some {T = Act} None ≡ true = subst (λ (o : Option Act). is_some o ≡ true) none both in cc) ]
 
-ended_of : (s : Scenario) (c : ℕ) (own : Script) (x : Caller) → StandsFor (first_map s) (opening_of s) [] → AreMade (geometry_of s) (played s).callers → slice_get (played s).callers c ≡ Some x
+ended_of : (s : Scenario) (c : ℕ) (own : Script) (x : Caller) → InvariantFor (first_map s) (opening_of s) [] → AreMade (geometry_of s) (played s).callers → slice_get (played s).callers c ≡ Some x
     → agent_tasks x ≡ script_tasks own → caller_next x ≡ None → HasEnded (geometry_of s) c (Some own) (caller_answers x) (events_of c (played_trace s))
 unfolding script_tasks
 ended_of s c (script.Agent asks) (caller.Agent a) opening made at same none =
@@ -308,7 +308,7 @@ ended_of s c (script.Cpu looks) x opening made at same none = tt
 answers_given : (callers : List Caller) (c : ℕ) (x : Caller) → slice_get callers c ≡ Some x → answers_by (map caller_answers callers) (slice_get (map caller_answers callers) c) ≡ caller_answers x
 answers_given callers c x at = ap (answers_by (map caller_answers callers)) (answers_of_caller callers c x at)
 
-ends_of : (s : Scenario) (c : ℕ) (o : Option Caller) → StandsFor (first_map s) (opening_of s) [] → AreMade (geometry_of s) (played s).callers → slice_get (played s).callers c ≡ o → IsDone o
+ends_of : (s : Scenario) (c : ℕ) (o : Option Caller) → InvariantFor (first_map s) (opening_of s) [] → AreMade (geometry_of s) (played s).callers → slice_get (played s).callers c ≡ o → IsDone o
     → HasEnded (geometry_of s) c (slice_get s.scripts c) (answers_by (map caller_answers (played s).callers) (slice_get (map caller_answers (played s).callers) c)) (events_of c (played_trace s))
 ends_of s c (Some x) opening made at done =
     let own = script_at s c x at in
@@ -324,7 +324,7 @@ ends_of s c None opening made at done =
     ] in
     subst (λ (o : Option Script). HasEnded (geometry_of s) c o (answers_by (map caller_answers (played s).callers) (slice_get (map caller_answers (played s).callers) c)) (events_of c (played_trace s))) (sym none) tt
 
-pub is_trace : (s : Scenario) → StandsFor (first_map s) (opening_of s) [] → AreMade (geometry_of s) (played s).callers
+pub is_trace : (s : Scenario) → InvariantFor (first_map s) (opening_of s) [] → AreMade (geometry_of s) (played s).callers
     → IsTrace (geometry_of s) s.scripts (first_words s) (turns_in s) (played_trace s) (map caller_answers (played s).callers) (played s).words
 is_trace s opening made = record {
   callers = subst (λ (n : ℕ). All (λ (e : TraceEvent). e.caller < n) (played_trace s)) (length-map s.scripts (caller_of (geometry_of s))) (trace_known (opening_of s) (turns_in s));
@@ -355,12 +355,12 @@ opening_holds n g (script.Cpu looks ∷ scripts) =
 
 -- ---- the whole
 
-pub is_run : (s : Scenario) → StandsFor (first_map s) (opening_of s) [] → IsRun s (outcome_of (played s)) (played_trace s)
+pub is_run : (s : Scenario) → InvariantFor (first_map s) (opening_of s) [] → IsRun s (outcome_of (played s)) (played_trace s)
 is_run s opening =
-    let stands_so = turns_stand (first_map s) (opening_of s) [] (turns_in s) opening in
-    let stands : Stands (geometry_of s) (first_map s) (played s).words (played s).callers (history_of (played_trace s)) =
-    subst (λ (h : List Entry). Stands (geometry_of s) (first_map s) (played s).words (played s).callers h) (sym (trace_told (opening_of s) (turns_in s)))
-    (subst (λ (g : GeometryData). Stands g (first_map s) (played s).words (played s).callers (told_in (opening_of s) (turns_in s))) (turns_geometry (opening_of s) (turns_in s)) stands_so) in
+    let stands_so = turns_hold (first_map s) (opening_of s) [] (turns_in s) opening in
+    let stands : Invariant (geometry_of s) (first_map s) (played s).words (played s).callers (history_of (played_trace s)) =
+    subst (λ (h : List Entry). Invariant (geometry_of s) (first_map s) (played s).words (played s).callers h) (sym (trace_entries (opening_of s) (turns_in s)))
+    (subst (λ (g : GeometryData). Invariant g (first_map s) (played s).words (played s).callers (entries_in (opening_of s) (turns_in s))) (turns_geometry (opening_of s) (turns_in s)) stands_so) in
     let made : AreMade (geometry_of s) (played s).callers = λ c a at.
     (let is = made_at_place (geometry_of s) (first_map s) (played s).words (played s).callers c (caller.Agent a) stands.shape at in
     (is.0, is.1, events_of c (played_trace s), played_walked s c a opening at)) in
@@ -375,6 +375,6 @@ is_run s opening =
           omega (arith, counts, free, none);
     }
 
-pub run_left : {E : Type 0} (s : Scenario) (r : Result Outcome E) → StandsFor (first_map s) (opening_of s) [] → IfOk r (λ o. o ≡ outcome_of (played s)) → IfOk r (λ o. IsRun s o (played_trace s))
+pub run_left : {E : Type 0} (s : Scenario) (r : Result Outcome E) → InvariantFor (first_map s) (opening_of s) [] → IfOk r (λ o. o ≡ outcome_of (played s)) → IfOk r (λ o. IsRun s o (played_trace s))
 run_left s (Ok o) opening left = subst (λ (x : Outcome). IsRun s x (played_trace s)) (sym left) (is_run s opening)
 run_left s (Err e) opening left = tt

@@ -20,7 +20,7 @@ use Rattle.delegate_ops.specs.Deciding.{is_unusable, idle_answer}
 use Rattle.delegate_ops.specs.Agents.{answered_first, idle_answers}
 use Rattle.core_machine.specs.declared.caller.Caller.{Caller}
 use Rattle.core_machine.specs.InnerCallers.{own_of}
-use Rattle.core_machine.specs.InnerHistory.{AreAllowed, Tells}
+use Rattle.core_machine.specs.InnerHistory.{AreAllowed, IsHistoryOf}
 use Rattle.core_machine.proofs.ListLemmas.{get_set}
 
 -- ---- what an act may add: nothing, or one entry of the call under way
@@ -51,10 +51,10 @@ added_known c k n made low added =
 
 -- ---- one caller steps
 
-pub tells_keep : (first : List Gpi) (callers : List Caller) (h : List Entry) (c k : ℕ) (a x : Caller) (made : List Entry)
-    → slice_get callers c ≡ Some a → Tells first callers h → IsAdded c k made → own_of c x ≡ own_of c a ++ made → AreAllowed (state_after (start first) h) made
-    → Tells first (set callers c x) (h ++ made)
-tells_keep first callers h c k a x made at tells added own allowed = record {
+pub history_keeps : (first : List Gpi) (callers : List Caller) (h : List Entry) (c k : ℕ) (a x : Caller) (made : List Entry)
+    → slice_get callers c ≡ Some a → IsHistoryOf first callers h → IsAdded c k made → own_of c x ≡ own_of c a ++ made → AreAllowed (state_after (start first) h) made
+    → IsHistoryOf first (set callers c x) (h ++ made)
+history_keeps first callers h c k a x made at tells added own allowed = record {
   allowed = allowed_joined (start first) h made tells.allowed allowed;
   own = λ d y there.
       elim (get_set callers c d x y there) [

@@ -36,7 +36,7 @@ use Rattle.core_machine.specs.declared.caller.Caller.TheVariants as caller
 use Rattle.core_machine.proofs.ListLemmas.{one, get_set, get_set_other, count_set}
 use Rattle.core_machine.proofs.OthersLemmas.{made_at_place, index_at, generation_low}
 use Rattle.core_machine.proofs.LawLemmas.{one_act}
-use Rattle.core_machine.proofs.MachineLemmas.{turn_stands, turns_length}
+use Rattle.core_machine.proofs.MachineLemmas.{turn_holds, turns_length}
 use Rattle.core_machine.proofs.LockLemmas.{holder_bit, take_free, take_held, release_held}
 use Rattle.core_machine.proofs.ChangeActs.{locks_stay}
 use Rattle.core_machine.proofs.ActLemmas.{Acting, lock_of_task, low_of}
@@ -45,8 +45,8 @@ use Rattle.delegate_ops.proofs.ScriptLemmas.{some_mapped}
 use Rattle.core_machine.specs.Trace.{AreAnswered, TakesTurns, TraceEvent, events_of, history_of, words_after, releases, releases_by, takes, takes_by}
 use Rattle.delegate_ops.specs.Script.{CallEvent, lock_bit_of}
 use Rattle.delegate_ops.specs.InnerScript.{HasWalked}
-use Rattle.core_machine.specs.InnerInvariant.{IsMade, Stands}
-use Rattle.core_machine.specs.InnerMachine.{MachineData, StandsFor, after_act_of, after_turn, after_turn_of, after_turns, event_of, told_in, told_of, trace_of, turn_event_of, turn_told, turn_told_of}
+use Rattle.core_machine.specs.InnerInvariant.{IsMade, Invariant}
+use Rattle.core_machine.specs.InnerMachine.{MachineData, InvariantFor, after_act_of, after_turn, after_turn_of, after_turns, event_of, entries_in, act_entries_of, trace_of, turn_event_of, turn_entries, turn_entries_of}
 use Rattle.core_machine.specs.InnerCallers.{caller_next, caller_took, made_by}
 use Rattle.core_machine.specs.InnerPlay.{caller_of, opening_of, played, played_trace}
 use Rattle.core_machine.specs.Scenarios.{first_map, geometry_of, task_of_ask, turns_in}
@@ -102,17 +102,17 @@ act_comes m c d x (Some t) b at next made there =
       | inr away ↦ rw (ne_eqb d c (λ same. away.0 (sym same))) (stays_at m c b away.1)
     ]
 
-turn_comes : (first : List Gpi) (m : MachineData) (h : List Entry) (c d : ℕ) (o : Option Caller) (b : AgentData) → StandsFor first m h → slice_get m.callers d ≡ o → slice_get (after_turn_of m d o).callers c ≡ Some (caller.Agent b)
+turn_comes : (first : List Gpi) (m : MachineData) (h : List Entry) (c d : ℕ) (o : Option Caller) (b : AgentData) → InvariantFor first m h → slice_get m.callers d ≡ o → slice_get (after_turn_of m d o).callers c ≡ Some (caller.Agent b)
     → Comes m c b (events_of c (turn_event_of m d o))
 turn_comes first m h c d None b stands at there = stays_at m c b there
 turn_comes first m h c d (Some x) b stands at there =
     act_comes m c d x (caller_next x) b at refl (made_at_place m.geometry first m.words m.callers d x stands.shape at) there
 
-turns_come : (first : List Gpi) (m : MachineData) (h : List Entry) (turns : List ℕ) (c : ℕ) (b : AgentData) → StandsFor first m h → slice_get (after_turns m turns).callers c ≡ Some (caller.Agent b)
+turns_come : (first : List Gpi) (m : MachineData) (h : List Entry) (turns : List ℕ) (c : ℕ) (b : AgentData) → InvariantFor first m h → slice_get (after_turns m turns).callers c ≡ Some (caller.Agent b)
     → Comes m c b (events_of c (trace_of m turns))
 turns_come first m h [] c b stands there = stays_at m c b there
 turns_come first m h (d ∷ turns) c b stands there =
-    let later = turns_come first (after_turn m d) (h ++ turn_told m d) turns c b (turn_stands first m h d stands) there in
+    let later = turns_come first (after_turn m d) (h ++ turn_entries m d) turns c b (turn_holds first m h d stands) there in
     let now = turn_comes first m h c d (slice_get m.callers d) later.from stands refl later.at in
     let whole = of_append c (turn_event_of m d (slice_get m.callers d)) (trace_of (after_turn m d) turns) in
     record {
@@ -130,7 +130,7 @@ opening_agent g (script.Agent asks ∷ scripts) zero d a at = let same : fresh g
 opening_agent g (script.Cpu looks ∷ scripts) zero d a at = absurd cc
 opening_agent g (s ∷ scripts) (suc c) d a at = opening_agent g scripts c d a at
 
-pub played_walked : (s : Scenario) (c : ℕ) (a : AgentData) → StandsFor (first_map s) (opening_of s) [] → slice_get (played s).callers c ≡ Some (caller.Agent a)
+pub played_walked : (s : Scenario) (c : ℕ) (a : AgentData) → InvariantFor (first_map s) (opening_of s) [] → slice_get (played s).callers c ≡ Some (caller.Agent a)
     → HasWalked c a (events_of c (played_trace s))
 played_walked s c a stands there =
     let comes = turns_come (first_map s) (opening_of s) [] (turns_in s) c a stands there in
@@ -138,20 +138,20 @@ played_walked s c a stands there =
 
 -- ---- the history
 
-event_told : (m : MachineData) (c : ℕ) (a : Caller) (o : Option Act) → history_of (event_of m c a o) ≡ told_of m c a o
+event_told : (m : MachineData) (c : ℕ) (a : Caller) (o : Option Act) → history_of (event_of m c a o) ≡ act_entries_of m c a o
 event_told m c a None = refl
 event_told m c a (Some t) = flat_map-cons (λ (e : TraceEvent). e.event.made) (record { caller = c; event = made_event m c a t }) [] ∙ append-nil (made_by c a (answer_of t m.words))
 
-turn_event_told : (m : MachineData) (c : ℕ) (o : Option Caller) → history_of (turn_event_of m c o) ≡ turn_told_of m c o
+turn_event_told : (m : MachineData) (c : ℕ) (o : Option Caller) → history_of (turn_event_of m c o) ≡ turn_entries_of m c o
 turn_event_told m c None = refl
 turn_event_told m c (Some a) = event_told m c a (caller_next a)
 
-pub trace_told : (m : MachineData) (turns : List ℕ) → history_of (trace_of m turns) ≡ told_in m turns
-trace_told m [] = refl
-trace_told m (c ∷ turns) =
+pub trace_entries : (m : MachineData) (turns : List ℕ) → history_of (trace_of m turns) ≡ entries_in m turns
+trace_entries m [] = refl
+trace_entries m (c ∷ turns) =
     flat_map-append (λ (e : TraceEvent). e.event.made) (turn_event_of m c (slice_get m.callers c)) (trace_of (after_turn m c) turns)
     ∙ ap (λ (es : List Entry). es ++ history_of (trace_of (after_turn m c) turns)) (turn_event_told m c (slice_get m.callers c))
-    ∙ ap (λ (es : List Entry). turn_told m c ++ es) (trace_told (after_turn m c) turns)
+    ∙ ap (λ (es : List Entry). turn_entries m c ++ es) (trace_entries (after_turn m c) turns)
 
 -- ---- words
 
@@ -178,21 +178,21 @@ trace_words m (c ∷ turns) =
     ∙ ap (λ (words : List ℕ). words_after words (trace_of (after_turn m c) turns)) (sym (turn_words_of m c (slice_get m.callers c)))
     ∙ sym (words_after-append m.words (turn_event_of m c (slice_get m.callers c)) (trace_of (after_turn m c) turns))
 
-event_answered : (first : List Gpi) (m : MachineData) (h : List Entry) (c : ℕ) (a : Caller) (o : Option Act) → StandsFor first m h → slice_get m.callers c ≡ Some a → caller_next a ≡ o → AreAnswered m.words (event_of m c a o)
+event_answered : (first : List Gpi) (m : MachineData) (h : List Entry) (c : ℕ) (a : Caller) (o : Option Act) → InvariantFor first m h → slice_get m.callers c ≡ Some a → caller_next a ≡ o → AreAnswered m.words (event_of m c a o)
 event_answered first m h c a None stands at next = tt
 event_answered first m h c a (Some t) stands at next = ((one_act m.geometry first m.words m.callers h c a t stands at next).0, refl, tt)
 
-turn_answered : (first : List Gpi) (m : MachineData) (h : List Entry) (c : ℕ) (o : Option Caller) → StandsFor first m h → slice_get m.callers c ≡ o → AreAnswered m.words (turn_event_of m c o)
+turn_answered : (first : List Gpi) (m : MachineData) (h : List Entry) (c : ℕ) (o : Option Caller) → InvariantFor first m h → slice_get m.callers c ≡ o → AreAnswered m.words (turn_event_of m c o)
 turn_answered first m h c None stands at = tt
 turn_answered first m h c (Some a) stands at = event_answered first m h c a (caller_next a) stands at refl
 
-pub trace_answered : (first : List Gpi) (m : MachineData) (h : List Entry) (turns : List ℕ) → StandsFor first m h → AreAnswered m.words (trace_of m turns)
+pub trace_answered : (first : List Gpi) (m : MachineData) (h : List Entry) (turns : List ℕ) → InvariantFor first m h → AreAnswered m.words (trace_of m turns)
 trace_answered first m h [] stands = tt
 trace_answered first m h (c ∷ turns) stands =
     answered-append m.words (turn_event_of m c (slice_get m.callers c)) (trace_of (after_turn m c) turns)
     (turn_answered first m h c (slice_get m.callers c) stands refl)
     (subst (λ (words : List ℕ). AreAnswered words (trace_of (after_turn m c) turns)) (sym (turn_words_of m c (slice_get m.callers c)))
-    (trace_answered first (after_turn m c) (h ++ turn_told m c) turns (turn_stands first m h c stands)))
+    (trace_answered first (after_turn m c) (h ++ turn_entries m c) turns (turn_holds first m h c stands)))
 
 -- ---- turns without an event
 
@@ -298,7 +298,7 @@ power_one i j same =
       ]
     ]
 
--- a lock is told from another by its word and its bit
+-- a lock differs from another by its word and its bit
 bit_of_lock : (n m p : ℕ) (q : Bool) → (n ≡ m → (p ≡ n / 64) × (q ≡ true)) → (n ≢ m → p ≡ n / 64 → n / 64 ≡ m / 64 → q ≡ false) → p ≡ n / 64
     → (eqb p (m / 64) && q) ≡ eqb n m
 bit_of_lock n m p q same apart place =
@@ -387,20 +387,20 @@ act_counts first words callers h c a t (stage.Releasing o) next m acting e low =
 act_counts first words callers h c a t stage.Stopped next m acting e low = absurd cc
 
 agent_counts : (first : List Gpi) (words : List ℕ) (callers : List Caller) (h : List Entry) (c : ℕ) (a : AgentData) (next : Act) (o : Option Task) (m : ℕ)
-    → Stands a.geometry first words callers h → slice_get callers c ≡ Some (caller.Agent a) → IsMade a.geometry (caller.Agent a) → task_of a ≡ o → option_and_then (act_at a.geometry a.stage) o ≡ Some next → m < 128
+    → Invariant a.geometry first words callers h → slice_get callers c ≡ Some (caller.Agent a) → IsMade a.geometry (caller.Agent a) → task_of a ≡ o → option_and_then (act_at a.geometry a.stage) o ≡ Some next → m < 128
     → CountsLock words next m
 agent_counts first words callers h c a next None m stands at made under_way e low = absurd cc
 agent_counts first words callers h c a next (Some t) m stands at made under_way e low =
     act_counts first words callers h c a t a.stage next m
     (record { stands = stands; at = at; is = made.1; under_way = under_way; acts = subst (HasActs a.geometry) under_way made.1.acts }) e low
 
-caller_counts : (g : GeometryData) (first : List Gpi) (words : List ℕ) (callers : List Caller) (h : List Entry) (c : ℕ) (x : Caller) (t : Act) (m : ℕ) → Stands g first words callers h → slice_get callers c ≡ Some x → caller_next x ≡ Some t → m < 128
+caller_counts : (g : GeometryData) (first : List Gpi) (words : List ℕ) (callers : List Caller) (h : List Entry) (c : ℕ) (x : Caller) (t : Act) (m : ℕ) → Invariant g first words callers h → slice_get callers c ≡ Some x → caller_next x ≡ Some t → m < 128
     → CountsLock words t m
 caller_counts g first words callers h c (caller.Cpu looks) t m stands at next low = absurd cc
 caller_counts g first words callers h c (caller.Agent a) t m stands at next low =
     let made = made_at_place g first words callers c (caller.Agent a) stands.shape at in
     agent_counts first words callers h c a t (task_of a) m
-    (subst (λ (k : GeometryData). Stands k first words callers h) (sym made.0) stands) at
+    (subst (λ (k : GeometryData). Invariant k first words callers h) (sym made.0) stands) at
     (subst (λ (k : GeometryData). IsMade k (caller.Agent a)) (sym made.0) made) refl next low
 
 -- the locks taken and released by a trace make the lock bits
@@ -413,7 +413,7 @@ count_one p e = let counted : count_by p (e ∷ []) ≡ one (p e) + count_by p [
 count_joined : (p : TraceEvent → Bool) (xs ys : List TraceEvent) → count_by p (xs ++ ys) ≡ count_by p xs + count_by p ys
 count_joined p xs ys = sum_by-append (λ x. one (p x)) xs ys
 
-event_counts : (n : ℕ) (first : List Gpi) (m : MachineData) (h : List Entry) (c : ℕ) (a : Caller) (o : Option Act) → n < 128 → StandsFor first m h → slice_get m.callers c ≡ Some a → caller_next a ≡ o
+event_counts : (n : ℕ) (first : List Gpi) (m : MachineData) (h : List Entry) (c : ℕ) (a : Caller) (o : Option Act) → n < 128 → InvariantFor first m h → slice_get m.callers c ≡ Some a → caller_next a ≡ o
     → CountsTrace n m.words (after_act_of m c a o).words (event_of m c a o)
 event_counts n first m h c a None low stands at next = refl
 event_counts n first m h c a (Some t) low stands at next =
@@ -421,16 +421,16 @@ event_counts n first m h c a (Some t) low stands at next =
     let e : TraceEvent = record { caller = c; event = made_event m c a t } in
     omega (arith, counts, count_one (releases n) e, count_one (takes n) e)
 
-turn_counts : (n : ℕ) (first : List Gpi) (m : MachineData) (h : List Entry) (c : ℕ) (o : Option Caller) → n < 128 → StandsFor first m h → slice_get m.callers c ≡ o
+turn_counts : (n : ℕ) (first : List Gpi) (m : MachineData) (h : List Entry) (c : ℕ) (o : Option Caller) → n < 128 → InvariantFor first m h → slice_get m.callers c ≡ o
     → CountsTrace n m.words (after_turn_of m c o).words (turn_event_of m c o)
 turn_counts n first m h c None low stands at = refl
 turn_counts n first m h c (Some a) low stands at = event_counts n first m h c a (caller_next a) low stands at refl
 
-pub trace_counts : (n : ℕ) (first : List Gpi) (m : MachineData) (h : List Entry) (turns : List ℕ) → n < 128 → StandsFor first m h → CountsTrace n m.words (after_turns m turns).words (trace_of m turns)
+pub trace_counts : (n : ℕ) (first : List Gpi) (m : MachineData) (h : List Entry) (turns : List ℕ) → n < 128 → InvariantFor first m h → CountsTrace n m.words (after_turns m turns).words (trace_of m turns)
 trace_counts n first m h [] low stands = refl
 trace_counts n first m h (c ∷ turns) low stands =
     let now = turn_counts n first m h c (slice_get m.callers c) low stands refl in
-    let later = trace_counts n first (after_turn m c) (h ++ turn_told m c) turns low (turn_stands first m h c stands) in
+    let later = trace_counts n first (after_turn m c) (h ++ turn_entries m c) turns low (turn_holds first m h c stands) in
     let taken = count_joined (takes n) (turn_event_of m c (slice_get m.callers c)) (trace_of (after_turn m c) turns) in
     let let_go = count_joined (releases n) (turn_event_of m c (slice_get m.callers c)) (trace_of (after_turn m c) turns) in
     omega (arith, now, later, taken, let_go)

@@ -16,7 +16,7 @@ use Rattle.history.specs.declared.entry.Entry.{Entry}
 use Rattle.history.specs.declared.entry.Entry.TheVariants as entry
 use Rattle.history.specs.States.{start, state_after}
 use Rattle.history.specs.Legality.{needed}
-use Rattle.history.specs.Calls.{task_at, answer_at, IsLegalHistory, TellsCalls}
+use Rattle.history.specs.Calls.{task_at, answer_at, IsLegalHistory, HasCalls}
 use Rattle.history.specs.Counts.{is_by, count_of, AreDoneCounts, IsWornCount}
 use Rattle.delegate_ops.specs.Deciding.{HasCause}
 use Rattle.delegate_ops.specs.Script.{granule_of_task}
@@ -52,9 +52,9 @@ AreAlone s answers h =
 
 -- the generations that call k of caller c is answered are the counts of the history
 abbrev pub IsCounted : GeometryData → ℕ → ℕ → Task → Answer → List Entry → Type 0
-IsCounted g c k t (answer.Done told) h = AreDoneCounts g.setup.first (granule_bytes g.setup) c k (granule_of_task g t) told h
+IsCounted g c k t (answer.Done given) h = AreDoneCounts g.setup.first (granule_bytes g.setup) c k (granule_of_task g t) given h
 IsCounted g c k t (answer.Worn z value) h = IsWornCount g.setup.first (granule_bytes g.setup) c k (granule_of_task g t) z value h
-IsCounted g c k t told h = Unit {0}
+IsCounted g c k t given h = Unit {0}
 
 -- a call without an answer that is refused with the GPI that it needs has a generation to report as worn
 abbrev pub AreWorn : GeometryData → List (List Task) → List (List Answer) → List Entry → Type 0
@@ -71,10 +71,10 @@ pub record FitsHistory (g : GeometryData) (first : List Gpi) (tasks : List (List
   pub many : length answers ≡ length tasks
   pub size : length words ≡ word_count g
   pub legal : IsLegalHistory (granule_bytes g.setup) tasks answers (start first) h
-  pub calls : TellsCalls (granule_bytes g.setup) tasks answers h
+  pub calls : HasCalls (granule_bytes g.setup) tasks answers h
   -- Inval and Unknown by their causes, and the generations of Done and Worn
-  pub causes : (c k : ℕ) (t : Task) (told : Answer) → task_at tasks c k ≡ Some t → answer_at answers c k ≡ Some told → HasCause g t told
-  pub counts : (c k : ℕ) (t : Task) (told : Answer) → task_at tasks c k ≡ Some t → answer_at answers c k ≡ Some told → IsCounted g c k t told h
+  pub causes : (c k : ℕ) (t : Task) (given : Answer) → task_at tasks c k ≡ Some t → answer_at answers c k ≡ Some given → HasCause g t given
+  pub counts : (c k : ℕ) (t : Task) (given : Answer) → task_at tasks c k ≡ Some t → answer_at answers c k ≡ Some given → IsCounted g c k t given h
   pub worn : AreWorn g tasks answers h
   -- transitions on one lock block don't mix
   pub undisturbed : AreUndisturbed g.setup h

@@ -1,4 +1,4 @@
--- Answers tell the counts of the history.
+-- Answers are the counts of the history.
 use Rattle.std.specs.Prelude.{◌≡◌, ℕ, List, [], ◌∷◌, ◌++◌, slice_get, Some}
 use Rattle.gpt_descriptors.specs.Sizes.{granule_bytes}
 use Rattle.gpt_descriptors.specs.Places.{GeometryData}
@@ -15,7 +15,7 @@ use Rattle.core_machine.specs.Facts.{IsCounted}
 
 -- the answer that the call under way is to have, where it is known
 abbrev pub coming_at : Stage → List Answer
-coming_at (stage.Releasing (Some told)) = told ∷ []
+coming_at (stage.Releasing (Some given)) = given ∷ []
 coming_at s = []
 
 abbrev pub known_answers : Caller → List Answer
@@ -28,5 +28,5 @@ caller_tasks (caller.Cpu looks) = []
 
 abbrev pub AnswersCount : GeometryData → List Caller → List Entry → Type 0
 AnswersCount g callers h =
-    (c k : ℕ) (caller : Caller) (t : Task) (told : Answer) → slice_get callers c ≡ Some caller → slice_get (caller_tasks caller) k ≡ Some t
-    → slice_get (known_answers caller) k ≡ Some told → IsCounted g c k t told h
+    (c k : ℕ) (caller : Caller) (t : Task) (given : Answer) → slice_get callers c ≡ Some caller → slice_get (caller_tasks caller) k ≡ Some t
+    → slice_get (known_answers caller) k ≡ Some given → IsCounted g c k t given h

@@ -1,4 +1,4 @@
--- The facts that stand between any two acts.
+-- The facts that hold between any two acts.
 use Rattle.std.specs.Prelude.{◌≡◌, ℕ, ◌<◌, List, length, slice_get, slice_index, Some}
 use Rattle.std.specs.List.{All}
 use Rattle.gpi_values.specs.declared.gpi.Gpi.{Gpi}
@@ -17,7 +17,7 @@ use Rattle.core_machine.specs.InnerSeen.{Sees}
 use Rattle.core_machine.specs.InnerRaised.{GenerationsCount}
 use Rattle.core_machine.specs.InnerAlone.{HoldersAreAlone}
 use Rattle.core_machine.specs.InnerCounted.{AnswersCount}
-use Rattle.core_machine.specs.InnerHistory.{Tells}
+use Rattle.core_machine.specs.InnerHistory.{IsHistoryOf}
 use Rattle.core_machine.specs.Facts.{AreUndisturbed}
 use Rattle.delegate_ops.specs.InnerScript.{HasWalked}
 
@@ -37,8 +37,8 @@ pub record AreIdle (g : GeometryData) (words : List ℕ) : Type 0 where
   pub duty : (cpu : ℕ) → cpu < g.cpus → slice_index words (place_of g (Duty cpu)) ≡ 0
   pub lines : (i : ℕ) → i < l1_words g → slice_index words (place_of g (Line i)) ≡ 0
 
--- Words and callers stand for a history from a first map.
-pub record Stands (g : GeometryData) (first : List Gpi) (words : List ℕ) (callers : List Caller) (h : List Entry) : Type 0 where
+-- Words and callers fit a history from a first map.
+pub record Invariant (g : GeometryData) (first : List Gpi) (words : List ℕ) (callers : List Caller) (h : List Entry) : Type 0 where
   pub shape : HasShape g first words callers
   pub tables : MeansMap g words (state_after (start first) h).map
   pub opened : OpenAreHeld (state_after (start first) h).opened callers
@@ -48,5 +48,5 @@ pub record Stands (g : GeometryData) (first : List Gpi) (words : List ℕ) (call
   pub undisturbed : AreUndisturbed g.setup h
   pub alone : HoldersAreAlone g.setup callers h
   pub counted : AnswersCount g callers h
-  pub told : Tells first callers h
+  pub history : IsHistoryOf first callers h
   pub idle : AreIdle g words

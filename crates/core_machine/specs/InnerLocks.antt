@@ -10,7 +10,7 @@ use Rattle.delegate_ops.specs.Agents.{task_of}
 use Rattle.core_machine.specs.declared.caller.Caller.{Caller}
 use Rattle.core_machine.specs.declared.caller.Caller.TheVariants as caller
 
--- a call stands between its lock and its unlock
+-- a call is between its lock and its unlock
 abbrev pub is_inside : Stage → Bool
 is_inside stage.Locking = false
 is_inside stage.Stopped = false

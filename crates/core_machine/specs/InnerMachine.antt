@@ -7,7 +7,7 @@ use Rattle.shared_words.specs.Acts.{answer_of, after_act}
 use Rattle.history.specs.declared.entry.Entry.{Entry}
 use Rattle.core_machine.specs.declared.caller.Caller.{Caller}
 use Rattle.core_machine.specs.InnerCallers.{caller_next, caller_took, made_by}
-use Rattle.core_machine.specs.InnerInvariant.{Stands}
+use Rattle.core_machine.specs.InnerInvariant.{Invariant}
 use Rattle.core_machine.specs.Trace.{TraceEvent}
 
 pub record MachineData : Type 0 where
@@ -15,9 +15,9 @@ pub record MachineData : Type 0 where
   pub callers : List Caller
   pub words : List ℕ
 
--- the machine stands for a history from a first map
-abbrev pub StandsFor : List Gpi → MachineData → List Entry → Type 0
-StandsFor first m h = Stands m.geometry first m.words m.callers h
+-- the machine has the invariant with a history from a first map
+abbrev pub InvariantFor : List Gpi → MachineData → List Entry → Type 0
+InvariantFor first m h = Invariant m.geometry first m.words m.callers h
 
 -- ---- one turn
 
@@ -34,11 +34,11 @@ abbrev pub event_of : MachineData → ℕ → Caller → Option Act → List Tra
 event_of m c a None = []
 event_of m c a (Some t) = record { caller = c; event = record { act = t; old = answer_of t m.words; made = made_by c a (answer_of t m.words) } } ∷ []
 
-abbrev pub told_of : MachineData → ℕ → Caller → Option Act → List Entry
-told_of m c a None = []
-told_of m c a (Some t) = made_by c a (answer_of t m.words)
+abbrev pub act_entries_of : MachineData → ℕ → Caller → Option Act → List Entry
+act_entries_of m c a None = []
+act_entries_of m c a (Some t) = made_by c a (answer_of t m.words)
 
--- the machine after a turn of caller c, its event, and the entries that it tells
+-- the machine after a turn of caller c, its event, and the entries that it makes
 abbrev pub after_turn_of : MachineData → ℕ → Option Caller → MachineData
 after_turn_of m c None = m
 after_turn_of m c (Some a) = after_act_of m c a (caller_next a)
@@ -50,12 +50,12 @@ abbrev pub turn_event_of : MachineData → ℕ → Option Caller → List TraceE
 turn_event_of m c None = []
 turn_event_of m c (Some a) = event_of m c a (caller_next a)
 
-abbrev pub turn_told_of : MachineData → ℕ → Option Caller → List Entry
-turn_told_of m c None = []
-turn_told_of m c (Some a) = told_of m c a (caller_next a)
+abbrev pub turn_entries_of : MachineData → ℕ → Option Caller → List Entry
+turn_entries_of m c None = []
+turn_entries_of m c (Some a) = act_entries_of m c a (caller_next a)
 
-abbrev pub turn_told : MachineData → ℕ → List Entry
-turn_told m c = turn_told_of m c (slice_get m.callers c)
+abbrev pub turn_entries : MachineData → ℕ → List Entry
+turn_entries m c = turn_entries_of m c (slice_get m.callers c)
 
 -- ---- a list of turns, by callers
 
@@ -69,6 +69,6 @@ trace_of m [] = []
 trace_of m (c ∷ turns) = turn_event_of m c (slice_get m.callers c) ++ trace_of (after_turn m c) turns
 
 -- the history of the trace: the entries of its events, in their order
-abbrev pub told_in : MachineData → List ℕ → List Entry
-told_in m [] = []
-told_in m (c ∷ turns) = turn_told m c ++ told_in (after_turn m c) turns
+abbrev pub entries_in : MachineData → List ℕ → List Entry
+entries_in m [] = []
+entries_in m (c ∷ turns) = turn_entries m c ++ entries_in (after_turn m c) turns

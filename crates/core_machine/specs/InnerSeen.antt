@@ -1,4 +1,4 @@
--- What a caller keeps while it holds its lock is what stands in the shared words.
+-- What a caller keeps while it holds its lock is what is in the shared words.
 use Rattle.std.specs.Prelude.{◌≡◌, ℕ, Bool, true, false, List, slice_index, Option, Some}
 use Rattle.gpi_values.specs.declared.gpi.Gpi.{Gpi}
 use Rattle.gpt_descriptors.specs.declared.size.Size.{Size}

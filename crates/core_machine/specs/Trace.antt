@@ -89,7 +89,7 @@ releases n e = releases_by n e.event.act
 -- ---- the whole
 
 -- A trace of these turns, from words before the first act to these answers and words: its callers are those
--- of the turns, less the turns of callers that have ended; each act answers what stands in its word; and
+-- of the turns, less the turns of callers that have ended; each act answers what its word holds; and
 -- each caller follows its script.
 pub record IsTrace (g : GeometryData) (scripts : List Script) (before : List ℕ) (turns : List ℕ) (trace : List TraceEvent) (answers : List (List Answer)) (words : List ℕ) : Type 0 where
   pub callers : All (λ e. e.caller < length scripts) trace

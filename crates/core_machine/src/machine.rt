@@ -3,7 +3,7 @@ ghost use Rattle.std.specs.List.{All};
 ghost use Rattle.gpi_values.specs.declared.gpi.Gpi.{Gpi};
 ghost use Rattle.history.specs.declared.entry.Entry.{Entry};
 ghost use Rattle.core_machine.specs.InnerOpening.{IsFresh, AreStarting};
-ghost use Rattle.core_machine.specs.InnerMachine.{StandsFor, after_turn, turn_told, MachineData};
+ghost use Rattle.core_machine.specs.InnerMachine.{InvariantFor, after_turn, turn_entries, MachineData};
 ghost use Rattle.delegate_ops.specs.Agents.{fresh};
 
 use crate::caller::Caller;
@@ -28,13 +28,13 @@ impl<W: Words> Model for Machine<W> {
 
 impl<W: Words> Machine<W> {
     /// A machine before the first act: the callers were made with this geometry and have made no act,
-    /// all shared words are there, no lock is held, and the tables among them mean a map. It stands
-    /// for the empty history from that map.
+    /// all shared words are there, no lock is held, and the tables among them mean a map. It has the
+    /// invariant with the empty history from that map.
     pub fn new(geometry: Geometry, callers: Vec<Caller>, words: W) -> Machine<W>
         requires fresh { All (IsFresh geometry) callers.items }
         requires starting { (first : List Gpi) × AreStarting geometry first (W.words words) }
         ensures machine { result ≡ record { geometry = geometry; callers = callers.items; words = W.words words } }
-        ensures stands { (first : List Gpi) → AreStarting geometry first (W.words words) → StandsFor first result [] }
+        ensures invariant { (first : List Gpi) → AreStarting geometry first (W.words words) → InvariantFor first result [] }
     {
         Machine {
             geometry,
@@ -43,13 +43,13 @@ impl<W: Words> Machine<W> {
         }
     }
 
-    /// One act of a caller, nothing where it has none. Where the machine stood for a history, it
-    /// stands for it with the entries of that act.
+    /// One act of a caller, nothing where it has none. Where the machine had the invariant with a history, it
+    /// has it with that history and the entries of that act.
     pub fn turn(&mut self, caller: usize)
         requires caller { caller < length self.old.callers }
-        requires stands { (first : List Gpi) × (h : List Entry) × StandsFor first self.old h }
+        requires invariant { (first : List Gpi) × (h : List Entry) × InvariantFor first self.old h }
         ensures turn { self.new ≡ after_turn self.old caller }
-        ensures stands { (first : List Gpi) (h : List Entry) → StandsFor first self.old h → StandsFor first self.new (h ++ turn_told self.old caller) }
+        ensures invariant { (first : List Gpi) (h : List Entry) → InvariantFor first self.old h → InvariantFor first self.new (h ++ turn_entries self.old caller) }
     {
         let acting = &mut self.callers[caller];
         if let Some(act) = acting.next() {

@@ -4,7 +4,7 @@ ghost use Rattle.scenario_text.specs.Spelling.{WellFormed};
 ghost use Rattle.scenario_text.specs.Calls.{AreAnswersOf};
 ghost use Rattle.table_build.specs.Built.{tables_of};
 ghost use Rattle.core_machine.specs.InnerCallers.{caller_answers};
-ghost use Rattle.core_machine.specs.InnerMachine.{StandsFor};
+ghost use Rattle.core_machine.specs.InnerMachine.{InvariantFor};
 ghost use Rattle.core_machine.specs.InnerPlay.{opening_of, played, outcome_of, played_trace};
 ghost use Rattle.core_machine.specs.Scenarios.{IsAccepted, first_map, geometry_of, is_cpu};
 ghost use Rattle.core_machine.specs.Run.{IsRun};
@@ -64,7 +64,7 @@ fn open(
     requires accepted { IsAccepted scenario.now }
     requires built { tables.now ≡ tables_of scenario.now.setup scenario.now.regions }
     ensures machine { IfOk result (λ machine. machine ≡ opening_of scenario.now) }
-    ensures stands { IfOk result (λ machine. StandsFor (first_map scenario.now) machine []) }
+    ensures invariant { IfOk result (λ machine. InvariantFor (first_map scenario.now) machine []) }
 {
     let geometry = geometry_of(scenario, tables);
     let callers = callers(alloc, scenario, geometry)?;

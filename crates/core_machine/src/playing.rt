@@ -2,7 +2,7 @@ ghost use Rattle.std.specs.Prelude.{◌≡◌, ◌<◌, ℕ, List, length, repli
 ghost use Rattle.std.specs.List.{All, flat_map, range_with_len};
 ghost use Rattle.gpi_values.specs.declared.gpi.Gpi.{Gpi};
 ghost use Rattle.history.specs.declared.entry.Entry.{Entry};
-ghost use Rattle.core_machine.specs.InnerMachine.{StandsFor, after_turns};
+ghost use Rattle.core_machine.specs.InnerMachine.{InvariantFor, after_turns};
 ghost use Rattle.core_machine.specs.InnerPlay.{NamesCaller};
 ghost use Rattle.core_machine.specs.Scenarios.{round_turns, slot_turns};
 
@@ -14,7 +14,7 @@ impl<W: Words> Machine<W> {
     /// So many turns of one caller.
     fn turns(&mut self, caller: usize, count: u32)
         requires caller { caller < length self.old.callers }
-        requires stands { (first : List Gpi) × (h : List Entry) × StandsFor first self.old h }
+        requires invariant { (first : List Gpi) × (h : List Entry) × InvariantFor first self.old h }
         ensures { self.new ≡ after_turns self.old (replicate count caller) }
     {
         for _ in 0..count {
@@ -24,7 +24,7 @@ impl<W: Words> Machine<W> {
 
     /// So many turns of each caller in order.
     fn round(&mut self, count: u32)
-        requires { (first : List Gpi) × (h : List Entry) × StandsFor first self.old h }
+        requires { (first : List Gpi) × (h : List Entry) × InvariantFor first self.old h }
         ensures { self.new ≡ after_turns self.old (round_turns (length self.old.callers) count) }
     {
         for caller in 0..self.callers().len() {
@@ -34,7 +34,7 @@ impl<W: Words> Machine<W> {
 
     /// So many rounds.
     fn rounds(&mut self, count: u32, times: u32)
-        requires { (first : List Gpi) × (h : List Entry) × StandsFor first self.old h }
+        requires { (first : List Gpi) × (h : List Entry) × InvariantFor first self.old h }
         ensures { self.new ≡ after_turns self.old (flat_map (λ k. round_turns (length self.old.callers) count) (range_with_len 0 times)) }
     {
         for _ in 0..times {
@@ -46,7 +46,7 @@ impl<W: Words> Machine<W> {
     /// time, however many are asked for.
     fn slot(&mut self, slot: Slot)
         requires names { NamesCaller (length self.old.callers) slot }
-        requires stands { (first : List Gpi) × (h : List Entry) × StandsFor first self.old h }
+        requires invariant { (first : List Gpi) × (h : List Entry) × InvariantFor first self.old h }
         ensures { self.new ≡ after_turns self.old (slot_turns (length self.old.callers) slot) }
     {
         match slot {
@@ -59,7 +59,7 @@ impl<W: Words> Machine<W> {
     /// The turns of a schedule.
     pub fn schedule(&mut self, schedule: &[Slot])
         requires names { All (NamesCaller (length self.old.callers)) schedule.now }
-        requires stands { (first : List Gpi) × (h : List Entry) × StandsFor first self.old h }
+        requires invariant { (first : List Gpi) × (h : List Entry) × InvariantFor first self.old h }
         ensures { self.new ≡ after_turns self.old (flat_map (slot_turns (length self.old.callers)) schedule.now) }
     {
         for slot in schedule {

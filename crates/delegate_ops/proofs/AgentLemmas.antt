@@ -124,7 +124,7 @@ read_all_fits g None t k acts no_look worn =
       | inl granules ↦ rw granules (first_is_change g t acts no_look, room_from k.generations (first_change t) (worn_room k.generations worn))
       | inr contiguous ↦ rw contiguous tt
     ]
-read_all_fits g (Some told) t k acts no_look worn = tt
+read_all_fits g (Some given) t k acts no_look worn = tt
 
 read_fits : (g : GeometryData) (t : Task) (z : Size) (k : Kept) → idle_answer g t ≡ None → is_look t ≡ false → IsStage (read_stage t z k) (Some t)
 read_fits g t size.Two k acts no_look = tt
@@ -160,7 +160,7 @@ after_fits a t (stage.Reading z k) old is under_way =
     read_fits a.geometry t z (kept_read z old k) (subst (HasActs a.geometry) under_way is.acts) (no_look_at (at_stage a (stage.Reading z k)) t is under_way)
 after_fits a t (stage.Changing c k) old is under_way = changing_fits a.geometry t c k (stage_at (stage.Changing c k) (task_of a) t under_way is.stage)
 after_fits a t (stage.Raising c z k) old is under_way = raised_fits t c z k (stage_at (stage.Raising c z k) (task_of a) t under_way is.stage)
-after_fits a t (stage.Releasing told) old is under_way = tt
+after_fits a t (stage.Releasing given) old is under_way = tt
 after_fits a t stage.Stopped old is under_way = tt
 
 -- as the code asks it

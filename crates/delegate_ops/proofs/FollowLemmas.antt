@@ -35,8 +35,8 @@ use Rattle.delegate_ops.proofs.NextLemmas.{acts_place}
 -- more events bring the call to where it decides
 pub record GoesOn (g : GeometryData) (c n : ℕ) (t : Task) (events : List CallEvent) : Type 0 where
   pub rest : List CallEvent
-  pub told : Option Answer
-  pub decided : Decides g c n t told (events ++ rest)
+  pub given : Option Answer
+  pub decided : Decides g c n t given (events ++ rest)
 
 not_empty : {A : Type 0} (xs : List A) (x : A) → xs ++ x ∷ [] ≡ [] → ⊥
 not_empty [] x e = absurd cc
@@ -48,7 +48,7 @@ under_way_by g c n t events acts goes =
     record {
       acts = acts;
       rest = goes.rest ++ e ∷ [];
-      told = goes.told;
+      given = goes.given;
       whole = record { deciding = events ++ goes.rest; left = 0; decided = goes.decided; parts = sym (append_assoc events goes.rest (e ∷ [])) };
       proper = λ none. absurd (not_empty goes.rest e none);
     }
@@ -70,10 +70,10 @@ refusing_answer g (task.Look pa space) = refl
 -- with its lock the call loads such a word
 locked_goes : (g : GeometryData) (c n : ℕ) (t : Task) (place : ℕ) (events : List CallEvent) → l1_place_of g (address_of t) ≡ Some place → TakesLock g t events → GoesOn g c n t events
 locked_goes g c n t place events there locked =
-    let told : Answer = answer.Perm gpi.NoAccess in
+    let given : Answer = answer.Perm gpi.NoAccess in
     record {
-      rest = record { act = act.Load place; old = refusing; made = entries_of g c n t told } ∷ [];
-      told = Some told;
+      rest = record { act = act.Load place; old = refusing; made = entries_of g c n t given } ∷ [];
+      given = Some given;
       decided = inl (record { place = place; word = refusing; looked = record { locking = events; locked = locked; there = there; parts = refl }; refused = refusing_answer g t });
     }
 
@@ -83,15 +83,15 @@ waiting_goes g c n t place events there waits =
     let goes = locked_goes g c n t place (events ++ e ∷ []) there (record { waits = events; free = 0; held = waits; clear = refl; parts = refl }) in
     record {
       rest = e ∷ goes.rest;
-      told = goes.told;
-      decided = subst (Decides g c n t goes.told) (append_assoc events (e ∷ []) goes.rest) goes.decided;
+      given = goes.given;
+      decided = subst (Decides g c n t goes.given) (append_assoc events (e ∷ []) goes.rest) goes.decided;
     }
 
 -- the generations, the last of them the last that there is
 worn_with : Generations → Generations
 worn_with k = record { two = k.two; thirty_two = k.thirty_two; five_twelve = generation_last }
 
-some_worn : (k : Generations) → (told : Answer) × (worn_answer (worn_with k) ≡ Some told)
+some_worn : (k : Generations) → (given : Answer) × (worn_answer (worn_with k) ≡ Some given)
 unfolding worn_with
 some_worn k =
     elim (cases_Bool (is_worn k.two)) [
@@ -125,7 +125,7 @@ reading_goes g c n t z k events reading =
     let worn = some_worn k.generations in
     record {
       rest = loads_from g c n t z k.generations;
-      told = Some worn.0;
+      given = Some worn.0;
       decided = inr (inl (record {
         place = reading.place;
         word = k.word;
@@ -154,7 +154,7 @@ changing_goes g c n t place to_come last events changing =
     let made = all_made g c n t place to_come last events changing in
     record {
       rest = made.0;
-      told = Some (answer.Done last);
+      given = Some (answer.Done last);
       decided = inr (inr (record {
         place = place;
         kept = made.1.kept;
@@ -171,10 +171,10 @@ prefix_under_way g c n stage.Looking t events acts prefix = under_way_by g c n t
 prefix_under_way g c n (stage.Reading z k) t events acts prefix = under_way_by g c n t events acts (reading_goes g c n t z k events prefix)
 prefix_under_way g c n (stage.Changing ch k) t events acts prefix = under_way_by g c n t events acts (changing_goes g c n t prefix.0 _ _ events prefix.2)
 prefix_under_way g c n (stage.Raising ch z k) t events acts prefix = under_way_by g c n t events acts (changing_goes g c n t prefix.0 _ _ events prefix.2)
-prefix_under_way g c n (stage.Releasing told) t events acts prefix =
-    under_way_by g c n t events acts (record { rest = []; told = told; decided = subst (Decides g c n t told) (sym (append-nil events)) prefix })
+prefix_under_way g c n (stage.Releasing given) t events acts prefix =
+    under_way_by g c n t events acts (record { rest = []; given = given; decided = subst (Decides g c n t given) (sym (append-nil events)) prefix })
 prefix_under_way g c n stage.Stopped t events acts prefix =
-    record { acts = acts; rest = []; told = None; whole = subst (Releases g c n t None) (sym (append-nil events)) prefix; proper = λ none. refl }
+    record { acts = acts; rest = []; given = None; whole = subst (Releases g c n t None) (sym (append-nil events)) prefix; proper = λ none. refl }
 
 last_under_way : (g : GeometryData) (c n : ℕ) (s : Stage) (o : Option Task) (events : List CallEvent) → HasActs g o → IsPrefix g c n s o events
     → MatchOption o (events ≡ []) (λ t. IsUnderWay g c n t events)
@@ -204,7 +204,7 @@ stopped_prefix g c n stage.Looking t events stopped prefix = absurd cc
 stopped_prefix g c n (stage.Reading z k) t events stopped prefix = absurd cc
 stopped_prefix g c n (stage.Changing ch k) t events stopped prefix = absurd cc
 stopped_prefix g c n (stage.Raising ch z k) t events stopped prefix = absurd cc
-stopped_prefix g c n (stage.Releasing told) t events stopped prefix = absurd cc
+stopped_prefix g c n (stage.Releasing given) t events stopped prefix = absurd cc
 
 ended_by : (c : ℕ) (a : AgentData) (o : Option Task) (calls last : List CallEvent) → IsAgent a → task_of a ≡ o → HasWalked c a (calls ++ last) → IsPrefix a.geometry c (length a.answers) a.stage o last → has_ended a ≡ true
     → (length a.answers ≡ length a.tasks) ⊎ ((t : Task) × (task_of a ≡ Some t) × Releases a.geometry c (length a.answers) t None last)

@@ -49,22 +49,22 @@ reads_quiet g t place word k made events read =
     subst (All (IsQuietEvent g t)) (sym read.parts)
     (All-append (IsQuietEvent g t) read.looking (reads g (address_of t) k made) (looks_quiet g t place word [] read.looking read.looked) (loads_quiet g t k made))
 
-decides_quiet : (g : GeometryData) (c n : ℕ) (t : Task) (told : Answer) (events : List CallEvent) → is_done told ≡ false → Decides g c n t (Some told) events → All (IsQuietEvent g t) events
-decides_quiet g c n t told events refused (inl by_word) = looks_quiet g t by_word.place by_word.word _ events by_word.looked
-decides_quiet g c n t told events refused (inr (inl worn)) = reads_quiet g t worn.place worn.word worn.generations _ events worn.read
-decides_quiet g c n t told events refused (inr (inr done)) = absurd (let both = rw done.is at refused in cc)
+decides_quiet : (g : GeometryData) (c n : ℕ) (t : Task) (given : Answer) (events : List CallEvent) → is_done given ≡ false → Decides g c n t (Some given) events → All (IsQuietEvent g t) events
+decides_quiet g c n t given events refused (inl by_word) = looks_quiet g t by_word.place by_word.word _ events by_word.looked
+decides_quiet g c n t given events refused (inr (inl worn)) = reads_quiet g t worn.place worn.word worn.generations _ events worn.read
+decides_quiet g c n t given events refused (inr (inr done)) = absurd (let both = rw done.is at refused in cc)
 
-call_quiet : (g : GeometryData) (c n : ℕ) (t : Task) (idle : Option Answer) (told : Answer) (events : List CallEvent) → IsCall g c n t idle told events → is_done told ≡ false → All (IsQuietEvent g t) events
-call_quiet g c n t (Some idle) told events call refused = subst (All (IsQuietEvent g t)) (sym call.1) (All-nil (IsQuietEvent g t))
-call_quiet g c n t None told events call refused =
+call_quiet : (g : GeometryData) (c n : ℕ) (t : Task) (idle : Option Answer) (given : Answer) (events : List CallEvent) → IsCall g c n t idle given events → is_done given ≡ false → All (IsQuietEvent g t) events
+call_quiet g c n t (Some idle) given events call refused = subst (All (IsQuietEvent g t)) (sym call.1) (All-nil (IsQuietEvent g t))
+call_quiet g c n t None given events call refused =
     subst (All (IsQuietEvent g t)) (sym call.parts)
-    (one_more g t call.deciding _ (decides_quiet g c n t told call.deciding refused call.decided) (inr (inr (inr refl))))
+    (one_more g t call.deciding _ (decides_quiet g c n t given call.deciding refused call.decided) (inr (inr (inr refl))))
 
-pub refused_quiet : (g : GeometryData) (c n : ℕ) (t : Task) (told : Answer) (events : List CallEvent) → IsCall g c n t (idle_answer g t) told events → is_done told ≡ false → All (λ e. IsQuiet g t e.act) events
-refused_quiet g c n t told events call refused = call_quiet g c n t (idle_answer g t) told events call refused
+pub refused_quiet : (g : GeometryData) (c n : ℕ) (t : Task) (given : Answer) (events : List CallEvent) → IsCall g c n t (idle_answer g t) given events → is_done given ≡ false → All (λ e. IsQuiet g t e.act) events
+refused_quiet g c n t given events call refused = call_quiet g c n t (idle_answer g t) given events call refused
 
-pub call_unlocks : (g : GeometryData) (c n : ℕ) (t : Task) (told : Answer) (events : List CallEvent) → IsCall g c n t (idle_answer g t) told events → idle_answer g t ≡ None
+pub call_unlocks : (g : GeometryData) (c n : ℕ) (t : Task) (given : Answer) (events : List CallEvent) → IsCall g c n t (idle_answer g t) given events → idle_answer g t ≡ None
     → (before : List CallEvent) × (left : ℕ) × (events ≡ before ++ plain (release_act (lock_bit_of g t)) left ∷ [])
-call_unlocks g c n t told events call acts =
-    let released : Releases g c n t (Some told) events = subst (λ (o : Option Answer). IsCall g c n t o told events) acts call in
+call_unlocks g c n t given events call acts =
+    let released : Releases g c n t (Some given) events = subst (λ (o : Option Answer). IsCall g c n t o given events) acts call in
     (released.deciding, released.left, released.parts)

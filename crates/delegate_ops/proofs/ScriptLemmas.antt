@@ -122,7 +122,7 @@ looked_prefix : (g : GeometryData) (c n : ℕ) (t : Task) (word place : ℕ) (o 
     → Looks g t place word (known_entries g c n t o) events → IsPrefix g c n (looked_stage o word) (Some t) events
 looked_prefix g c n t word place None events answers looks =
     record { place = place; looking = events; looked = looks; needed = answers; parts = sym (append-nil events) }
-looked_prefix g c n t word place (Some told) events answers looks = inl (record { place = place; word = word; looked = looks; refused = answers })
+looked_prefix g c n t word place (Some given) events answers looks = inl (record { place = place; word = word; looked = looks; refused = answers })
 
 looking : (g : GeometryData) (c : ℕ) (tasks : List Task) (answers : List Answer) (waited : Bool) (t : Task) (calls last : List CallEvent) (place old : ℕ)
     → slice_get tasks (length answers) ≡ Some t → AreCallEvents g c 0 tasks answers calls → TakesLock g t last → l1_place_of g (address_of t) ≡ Some place
@@ -164,7 +164,7 @@ read_all_prefix g c n t k place None events fresh there change reads =
       | inl granules ↦ rw granules (first_prefix g c n t k place events fresh there change reads granules)
       | inr contiguous ↦ rw contiguous (record { place = place; word = k.word; generations = k.generations; read = reads; fresh = fresh; contiguous = contiguous })
     ]
-read_all_prefix g c n t k place (Some told) events worn there change reads = inr (inl (record { place = place; word = k.word; generations = k.generations; read = reads; worn = worn }))
+read_all_prefix g c n t k place (Some given) events worn there change reads = inr (inl (record { place = place; word = k.word; generations = k.generations; read = reads; worn = worn }))
 
 read_prefix : (g : GeometryData) (c n : ℕ) (t : Task) (z : Size) (k : Kept) (old : ℕ) (events : List CallEvent) → idle_answer g t ≡ None → is_look t ≡ false → IsReading g t z k events
     → IsPrefix g c n (read_stage t z (kept_read z old k)) (Some t) (events ++ record { act = gen_load_of g z (address_of t); old = old; made = made_at g c n (stage.Reading z k) (Some t) old } ∷ [])

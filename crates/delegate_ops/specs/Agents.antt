@@ -43,7 +43,7 @@ is_look t = false
 abbrev pub task_of : AgentData → Option Task
 task_of a = slice_get a.tasks (length a.answers)
 
--- an answer, where there is one, and those behind it
+-- an answer, where there is one, and those after it
 abbrev pub answered_first : Option Answer → List Answer → List Answer
 answered_first None answers = []
 answered_first (Some a) answers = a ∷ answers
@@ -84,7 +84,7 @@ next_of a = option_and_then (act_at a.geometry a.stage) (task_of a)
 
 -- ---- steps
 
--- the call under way is answered, and with it those behind it that have no acts
+-- the call under way is answered, and with it those after it that have no acts
 abbrev pub after_answer : AgentData → Answer → AgentData
 after_answer a answer = record {
   geometry = a.geometry;
@@ -141,7 +141,7 @@ stage_after g t stage.Looking old = looked_stage (looked_answer g t old) old
 stage_after g t (stage.Reading z k) old = read_stage t z (kept_read z old k)
 stage_after g t (stage.Changing c k) old = stage.Raising c size.Two (kept_changed g t c k)
 stage_after g t (stage.Raising c z k) old = raised_stage c z (kept_raised z k)
-stage_after g t (stage.Releasing told) old = stage.Stopped
+stage_after g t (stage.Releasing given) old = stage.Stopped
 stage_after g t stage.Stopped old = stage.Stopped
 
 -- the act was a lock that wasn't free
@@ -186,20 +186,20 @@ pub record HasRoom (k : Generations) (l m n : ℕ) : Type 0 where
   pub thirty_two : k.thirty_two + m ≤ generation_last
   pub five_twelve : k.five_twelve + n ≤ generation_last
 
--- the raises of a generation from a change on, and behind it
+-- the raises of a generation from a change on, and after it
 abbrev pub raises_from : Change → ℕ
 raises_from change.First = 2
 raises_from change.Last = 1
 
-abbrev pub raises_behind : Change → ℕ
-raises_behind change.First = 1
-raises_behind change.Last = 0
+abbrev pub raises_after : Change → ℕ
+raises_after change.First = 1
+raises_after change.Last = 0
 
 abbrev pub IsStage : Stage → Option Task → Type 0
 IsStage (stage.Changing c k) (Some t) = IsChangeOf t c × HasRoom k.generations (raises_from c) (raises_from c) (raises_from c)
 IsStage (stage.Raising c size.Two k) (Some t) = IsChangeOf t c × HasRoom k.generations (raises_from c) (raises_from c) (raises_from c)
-IsStage (stage.Raising c size.ThirtyTwo k) (Some t) = IsChangeOf t c × HasRoom k.generations (raises_behind c) (raises_from c) (raises_from c)
-IsStage (stage.Raising c size.FiveTwelve k) (Some t) = IsChangeOf t c × HasRoom k.generations (raises_behind c) (raises_behind c) (raises_from c)
+IsStage (stage.Raising c size.ThirtyTwo k) (Some t) = IsChangeOf t c × HasRoom k.generations (raises_after c) (raises_from c) (raises_from c)
+IsStage (stage.Raising c size.FiveTwelve k) (Some t) = IsChangeOf t c × HasRoom k.generations (raises_after c) (raises_after c) (raises_from c)
 IsStage s o = Unit {0}
 
 pub record IsAgent (a : AgentData) : Type 0 where

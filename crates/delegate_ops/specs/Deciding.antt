@@ -89,4 +89,4 @@ is_idle a = false
 
 -- Inval and Unknown are the answers of exactly the tasks without acts, each by its cause
 abbrev pub HasCause : GeometryData → Task → Answer → Type 0
-HasCause g t told = MatchOption (idle_answer g t) (is_idle told ≡ false) (λ idle. told ≡ idle)
+HasCause g t given = MatchOption (idle_answer g t) (is_idle given ≡ false) (λ idle. given ≡ idle)

@@ -72,7 +72,7 @@ IsPrefix g c n (stage.Changing ch k) (Some t) events =
 IsPrefix g c n (stage.Raising ch z k) (Some t) events =
     (place : ℕ) × (l1_place_of g (address_of t) ≡ Some place)
     × IsChanging g c n t place (raises_at g c n t z k.generations ++ steps_after g c n t place ch (kept_raised_at z k)) (generations_after ch (kept_raised_at z k).generations) events
-IsPrefix g c n (stage.Releasing told) (Some t) events = Decides g c n t told events
+IsPrefix g c n (stage.Releasing given) (Some t) events = Decides g c n t given events
 IsPrefix g c n stage.Stopped (Some t) events = Releases g c n t None events
 
 -- Caller c, an agent, has come to its stage by these events.

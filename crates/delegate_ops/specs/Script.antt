@@ -129,22 +129,22 @@ last_generations t k = raised k
 
 -- the entries of call n of caller c by its answer
 abbrev pub entries_of : GeometryData → ℕ → ℕ → Task → Answer → List Entry
-entries_of g c n t told = call_entries (granule_bytes g.setup) c n t told
+entries_of g c n t given = call_entries (granule_bytes g.setup) c n t given
 
 -- it was refused by the loaded word, and this load makes its entry
-pub record IsRefused (g : GeometryData) (c n : ℕ) (t : Task) (told : Answer) (events : List CallEvent) : Type 0 where
+pub record IsRefused (g : GeometryData) (c n : ℕ) (t : Task) (given : Answer) (events : List CallEvent) : Type 0 where
   pub place : ℕ
   pub word : ℕ
-  pub looked : Looks g t place word (entries_of g c n t told) events
-  pub refused : looked_answer g t word ≡ Some told
+  pub looked : Looks g t place word (entries_of g c n t given) events
+  pub refused : looked_answer g t word ≡ Some given
 
 -- it was refused by a loaded generation, and the third load makes its entry
-pub record IsWornOut (g : GeometryData) (c n : ℕ) (t : Task) (told : Answer) (events : List CallEvent) : Type 0 where
+pub record IsWornOut (g : GeometryData) (c n : ℕ) (t : Task) (given : Answer) (events : List CallEvent) : Type 0 where
   pub place : ℕ
   pub word : ℕ
   pub generations : Generations
-  pub read : Reads g t place word generations (entries_of g c n t told) events
-  pub worn : worn_answer generations ≡ Some told
+  pub read : Reads g t place word generations (entries_of g c n t given) events
+  pub worn : worn_answer generations ≡ Some given
 
 -- it has found a contiguous entry
 pub record Stops (g : GeometryData) (t : Task) (events : List CallEvent) : Type 0 where
@@ -166,29 +166,29 @@ pub record Changes (g : GeometryData) (t : Task) (place : ℕ) (k : Kept) (made 
   pub parts : events ≡ reading ++ changing
 
 -- it is done
-pub record IsDone (g : GeometryData) (c n : ℕ) (t : Task) (told : Answer) (events : List CallEvent) : Type 0 where
+pub record IsDone (g : GeometryData) (c n : ℕ) (t : Task) (given : Answer) (events : List CallEvent) : Type 0 where
   pub place : ℕ
   pub kept : Kept
   pub changes : Changes g t place kept (transition_steps g c n t place kept) events
-  pub is : told ≡ answer.Done (last_generations t kept.generations)
+  pub is : given ≡ answer.Done (last_generations t kept.generations)
 
 abbrev pub Decides : GeometryData → ℕ → ℕ → Task → Option Answer → List CallEvent → Type 0
 Decides g c n t None events = Stops g t events
-Decides g c n t (Some told) events = IsRefused g c n t told events ⊎ (IsWornOut g c n t told events ⊎ IsDone g c n t told events)
+Decides g c n t (Some given) events = IsRefused g c n t given events ⊎ (IsWornOut g c n t given events ⊎ IsDone g c n t given events)
 
 -- last, the lock is released
-pub record Releases (g : GeometryData) (c n : ℕ) (t : Task) (told : Option Answer) (events : List CallEvent) : Type 0 where
+pub record Releases (g : GeometryData) (c n : ℕ) (t : Task) (given : Option Answer) (events : List CallEvent) : Type 0 where
   pub deciding : List CallEvent
   pub left : ℕ
-  pub decided : Decides g c n t told deciding
+  pub decided : Decides g c n t given deciding
   pub parts : events ≡ deciding ++ plain (release_act (lock_bit_of g t)) left ∷ []
 
 -- ---- the calls of an agent
 
 -- the events of call n of caller c with this answer: none where its task has no acts
 abbrev pub IsCall : GeometryData → ℕ → ℕ → Task → Option Answer → Answer → List CallEvent → Type 0
-IsCall g c n t (Some idle) told events = (idle ≡ told) × (events ≡ [])
-IsCall g c n t None told events = Releases g c n t (Some told) events
+IsCall g c n t (Some idle) given events = (idle ≡ given) × (events ≡ [])
+IsCall g c n t None given events = Releases g c n t (Some given) events
 
 -- the events of the answered calls, from call n on, in their order
 abbrev pub AreCallEvents : GeometryData → ℕ → ℕ → List Task → List Answer → List CallEvent → Type 0
@@ -203,9 +203,9 @@ AreCallEvents g c n (t ∷ tasks) (a ∷ answers) events =
 pub record IsUnderWay (g : GeometryData) (c n : ℕ) (t : Task) (events : List CallEvent) : Type 0 where
   pub acts : idle_answer g t ≡ None
   pub rest : List CallEvent
-  pub told : Option Answer
-  pub whole : Releases g c n t told (events ++ rest)
-  pub proper : rest ≡ [] → told ≡ None
+  pub given : Option Answer
+  pub whole : Releases g c n t given (events ++ rest)
+  pub proper : rest ≡ [] → given ≡ None
 
 -- An agent that is caller c follows its script: its events are those of its answered calls, whole and in
 -- their order, and then those of the next call, if there is one.

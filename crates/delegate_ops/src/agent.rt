@@ -229,7 +229,7 @@ impl Agent {
         }
     }
 
-    /// The call under way is answered, and those behind it that have no acts.
+    /// The call under way is answered, and those after it that have no acts.
     fn end(&mut self, answer: Answer)
         requires { IsSome (task_of self.old) }
         ensures { self.new ≡ after_answer self.old answer }

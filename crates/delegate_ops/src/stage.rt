@@ -47,7 +47,7 @@ impl Kept {
     }
 }
 
-/// Where the call under way of an agent stands, with what it keeps.
+/// How far the call under way of an agent has come, with what it keeps.
 #[derive(Clone, Copy, Debug, PartialEq, Eq)]
 pub enum Stage {
     /// The next act takes the lock.

@@ -10,7 +10,7 @@ const SECURE: u64 = 0x8888_8888_8888_8888;
 
 const NON_SECURE: u64 = 0x9999_9999_9999_9999;
 
-/// The acts of a call at address 0: its lock is bit 0 of the first word, its L1 word stands behind
+/// The acts of a call at address 0: its lock is bit 0 of the first word, its L1 word comes after
 /// 2 locks, 2048, 128 and 8 generations and one duty word.
 const LOCK: Act = Act::Or(0, 1);
 
@@ -171,7 +171,7 @@ fn two_calls_at_a_secure_granule_take_six_acts(rt: HostRuntime) -> Result<(), Fa
     assert_eq!(rt; agent.answers(), [Answer::Inval, Answer::Inval].as_slice());
     assert_eq!(rt; agent.left(), 2);
 
-    // Each act with its answer, and the number of tasks without an answer behind it.
+    // Each act with its answer, and the number of tasks without an answer after it.
     let run = [
         (LOCK, 0, 2),
         (LOOK, SECURE, 2),
@@ -236,12 +236,12 @@ fn a_delegate_changes_its_granule_once(rt: HostRuntime) -> Result<(), Fail> {
     for (act, old) in DELEGATE_INSIDE {
         assert_eq!(rt; step(&mut agent, &mut words), Some((act, old)));
     }
-    let told = Generations {
+    let given = Generations {
         two: 0x7fff_ffff_ffff_fffe,
         thirty_two: 0x7fff_ffff_ffff_fffe,
         five_twelve: 501,
     };
-    assert_eq!(rt; agent.answers(), [Answer::Done(told)].as_slice());
+    assert_eq!(rt; agent.answers(), [Answer::Done(given)].as_slice());
     assert_eq!(rt; agent.next(), None);
     Ok(())
 }
@@ -255,18 +255,18 @@ fn an_undelegate_changes_its_granule_twice(rt: HostRuntime) -> Result<(), Fail> 
     for (act, old) in UNDELEGATE_INSIDE {
         assert_eq!(rt; step(&mut agent, &mut words), Some((act, old)));
     }
-    let told = Generations {
+    let given = Generations {
         two: 0x7fff_ffff_ffff_ffff,
         thirty_two: 0x7fff_ffff_ffff_ffff,
         five_twelve: 502,
     };
-    assert_eq!(rt; agent.answers(), [Answer::Done(told)].as_slice());
+    assert_eq!(rt; agent.answers(), [Answer::Done(given)].as_slice());
     assert_eq!(rt; agent.next(), None);
     Ok(())
 }
 
 #[test]
-fn a_worn_generation_is_told_with_its_first_size(rt: HostRuntime) -> Result<(), Fail> {
+fn a_worn_generation_is_given_with_its_first_size(rt: HostRuntime) -> Result<(), Fail> {
     for (generations, size, value) in WORN {
         let mut words = started(rt.alloc(), NON_SECURE)?;
         set(&mut words, generations.as_slice());

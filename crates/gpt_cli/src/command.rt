@@ -2,7 +2,7 @@ ghost use Rattle.std.specs.Prelude.{◌≡◌, map, Some, ◌↔◌};
 ghost use Rattle.gpt_cli.specs.Runs.{IsCommandOf};
 ghost use Rattle.gpt_cli.specs.declared.command.Command.{Command as TheCommand};
 
-/// What the program is told to do.
+/// What the program is to do.
 #[derive(Clone, Copy, Debug, PartialEq, Eq)]
 pub enum Command {
     /// Writes the canonical tables.

@@ -95,7 +95,7 @@ fn send<K: Sink>(sink: &mut K, status: u8, text: &[u8]) -> u8
 /// - 1: the input is too long, a line of it is bad, or its plan or base is refused; one line says so.
 /// - 2: the words are no command; the usage line was written, and nothing was read.
 /// - 3: a read failed, and nothing was written.
-/// - 4: a write failed, and a proper front of the text was written.
+/// - 4: a write failed, and a proper prefix of the text was written.
 /// - 5: memory ran out, and nothing was written.
 /// - 6: the schedule is used up and calls are left; the report was written.
 pub fn still<S: Source, K: Sink>(alloc: Global, words: &[&str], source: &mut S, sink: &mut K) -> u8
@@ -114,7 +114,7 @@ pub fn still<S: Source, K: Sink>(alloc: Global, words: &[&str], source: &mut S, 
         × Replies command bytes reply
         × Delivers (K.held sink.old) (K.held sink.new) (K.faults sink.old) (K.faults sink.new) reply result }
 
-    // Where it has no reply, nothing is written, and a failed read is told as one.
+    // Where it has no reply, nothing is written, and a failed read is reported as one.
     ensures read_fault { result ≡ 3 → Rose (S.faults source.old) (S.faults source.new) }
     ensures memory { result ≡ 5 → S.faults source.new ≡ S.faults source.old }
     ensures silent { (result ≡ 3) ⊎ (result ≡ 5)

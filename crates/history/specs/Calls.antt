@@ -53,12 +53,12 @@ abbrev pub IsUnderWay : ℕ → ℕ → ℕ → Option Task → List Entry → T
 IsUnderWay bytes c k None made = made ≡ []
 IsUnderWay bytes c k (Some t) made = (a : Answer) × (n : ℕ) × (made ≡ take n (call_entries bytes c k t a))
 
--- The entries of caller c are those of its answered calls, each once and in their order, and behind them
+-- The entries of caller c are those of its answered calls, each once and in their order, and after them
 -- the first ones of its next call.
 pub record AreCalls (bytes c : ℕ) (tasks : List Task) (answers : List Answer) (h : List Entry) : Type 0 where
   pub under_way : List Entry
   pub in_order : entries_by c h ≡ answered_entries bytes c 0 tasks answers ++ under_way
-  pub front : IsUnderWay bytes c (length answers) (slice_get tasks (length answers)) under_way
+  pub beginning : IsUnderWay bytes c (length answers) (slice_get tasks (length answers)) under_way
 
 -- ---- all callers
 
@@ -72,7 +72,7 @@ answer_at answers c k = option_and_then (λ own. slice_get own k) (slice_get ans
 -- a call without an answer may still be given any
 abbrev pub Fits : Option Answer → Answer → Type 0
 Fits None a = Unit {0}
-Fits (Some told) a = told ≡ a
+Fits (Some given) a = given ≡ a
 
 -- the entry is legal for the task of its call and its answer
 pub record IsLegalFor (bytes : ℕ) (tasks : List (List Task)) (answers : List (List Answer)) (s : State) (e : Entry) : Type 0 where
@@ -88,7 +88,7 @@ IsLegalHistory bytes tasks answers s [] = Unit {0}
 IsLegalHistory bytes tasks answers s (e ∷ h) =
     IsLegalFor bytes tasks answers s e × IsLegalHistory bytes tasks answers (after_entry s e) h
 
--- A history tells each call once and in its caller's order, and nothing else.
-pub record TellsCalls (bytes : ℕ) (tasks : List (List Task)) (answers : List (List Answer)) (h : List Entry) : Type 0 where
-  pub callers : (c : ℕ) (own : List Task) (told : List Answer) → slice_get tasks c ≡ Some own → slice_get answers c ≡ Some told → AreCalls bytes c own told h
+-- A history has each call once and in its caller's order, and nothing else.
+pub record HasCalls (bytes : ℕ) (tasks : List (List Task)) (answers : List (List Answer)) (h : List Entry) : Type 0 where
+  pub callers : (c : ℕ) (own : List Task) (given : List Answer) → slice_get tasks c ≡ Some own → slice_get answers c ≡ Some given → AreCalls bytes c own given h
   pub known : All (λ e. caller_in e < length tasks) h

@@ -38,19 +38,19 @@ counts_around first bytes granule h = record {
 abbrev pub is_by : ℕ → ℕ → Entry → Bool
 is_by c k e = (caller_in e == c) && (call_in e == k)
 
--- A transition that is done tells the counts around its granule up to and with its last completion.
-pub record AreDoneCounts (first bytes c k granule : ℕ) (told : Generations) (h : List Entry) : Type 0 where
+-- A transition that is done is answered the counts around its granule up to and with its last completion.
+pub record AreDoneCounts (first bytes c k granule : ℕ) (given : Generations) (h : List Entry) : Type 0 where
   pub before : List Entry
   pub after : List Entry
   pub parts : h ≡ before ++ entry.Settled c k granule ∷ after
   pub last : count_by (λ e. is_completion e && is_by c k e) after ≡ 0
-  pub counts : told ≡ counts_around first bytes granule before
+  pub counts : given ≡ counts_around first bytes granule before
 
 -- too near to the last generation for a transition, which raises each up to twice
 abbrev pub is_worn : ℕ → Bool
 is_worn value = nat_lt (generation_last - 2) value
 
--- A transition that is refused for a worn generation tells the first such size, and its count before the refusal.
+-- A transition that is refused for a worn generation is answered the first such size, and its count before the refusal.
 pub record IsWornCount (first bytes c k granule : ℕ) (z : Size) (value : ℕ) (h : List Entry) : Type 0 where
   pub before : List Entry
   pub after : List Entry

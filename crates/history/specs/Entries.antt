@@ -3,7 +3,7 @@ use Rattle.std.specs.Prelude.{ℕ, Bool, false, ◌==◌}
 use Rattle.history.specs.declared.entry.Entry.{Entry}
 use Rattle.history.specs.declared.entry.Entry.TheVariants as entry
 
--- the granule that an entry tells of
+-- the granule of an entry
 abbrev pub granule_in : Entry → ℕ
 granule_in (entry.Refused caller call granule found) = granule
 granule_in (entry.Changed caller call granule from to) = granule

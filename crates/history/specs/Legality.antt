@@ -46,7 +46,7 @@ is_seen a = false
 
 -- a transition that found this GPI is answered so: Perm with another GPI than the needed one, Worn with that one
 abbrev pub IsRefusal : Task → Gpi → Answer → Type 0
-IsRefusal t found (answer.Perm told) = IsTrue (is_transition t) × (needed t ≢ Some found) × (told ≡ found)
+IsRefusal t found (answer.Perm given) = IsTrue (is_transition t) × (needed t ≢ Some found) × (given ≡ found)
 IsRefusal t found (answer.Worn size value) = needed t ≡ Some found
 IsRefusal t found a = ⊥
 
@@ -65,7 +65,7 @@ abbrev pub is_still : Via → Bool
 is_still via.Still = true
 is_still v = false
 
--- the answer tells of an access at an L1 table with this GPI and this permission
+-- the answer is of an access at an L1 table with this GPI and this permission
 abbrev pub IsSeen : Answer → Gpi → Bool → Type 0
 IsSeen (answer.Seen access) gpi allowed =
     (access.gpi ≡ gpi) × (access.allowed ≡ allowed) × (access.level ≡ 1) × (is_still access.via ≡ false)

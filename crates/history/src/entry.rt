@@ -40,7 +40,7 @@ pub enum Entry {
 }
 
 impl Entry {
-    /// The granule that the entry tells of.
+    /// The granule of the entry.
     pub fn granule(&self) -> u64
         ensures { result ≡ granule_in self.now }
     {

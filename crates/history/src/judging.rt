@@ -47,7 +47,7 @@ fn refuses(task: Task, found: Gpi, answer: Answer) -> bool
     ensures { IsTrue result ↔ IsRefusal task found answer }
 {
     match answer {
-        Answer::Perm(told) => is_transition(task) && needed(task) != Some(found) && told == found,
+        Answer::Perm(given) => is_transition(task) && needed(task) != Some(found) && given == found,
         Answer::Worn(..) => needed(task) == Some(found),
         Answer::Inval | Answer::Unknown | Answer::Done(_) | Answer::Seen(_) => false,
     }
@@ -77,7 +77,7 @@ fn is_look_in(task: Task, space: Space) -> bool
     }
 }
 
-/// Whether the answer tells of an access at an L1 table with this GPI and this permission.
+/// Whether the answer is of an access at an L1 table with this GPI and this permission.
 fn is_seen(answer: Answer, gpi: Gpi, allowed: bool) -> bool
     ensures { IsTrue result ↔ IsSeen answer gpi allowed }
 {

@@ -10,7 +10,7 @@ ghost use Rattle.history.specs.Entries.{changes_granule};
 ghost use Rattle.history.specs.States.{State, state_after};
 ghost use Rattle.history.specs.Calls.{IsLegalHistory};
 
-/// The law of completion: in a legal history, an access that stands after the completion of a change
+/// The law of completion: in a legal history, an access after the completion of a change
 /// of its granule, and before the next change of it, has the map's GPI and is allowed by it alone. So
 /// it is never granted by the former space.
 pub fn settled_means_final()

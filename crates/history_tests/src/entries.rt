@@ -24,7 +24,7 @@ fn state(alloc: Global) -> Result<Replay, AllocError> {
 }
 
 /// Applies the entry where it is legal, and says whether it is.
-fn told(
+fn given(
     replay: &mut Replay,
     entry: &Entry,
     task: Task,
@@ -128,7 +128,7 @@ fn a_granule_comes_back_by_six_entries(rt: HostRuntime) -> Result<(), Fail> {
         (settled(1), UNDELEGATE, done(3)),
     ];
     for (entry, task, answer) in entries {
-        assert!(rt; told(&mut replay, &entry, task, answer)?, "{entry:?}");
+        assert!(rt; given(&mut replay, &entry, task, answer)?, "{entry:?}");
     }
     assert!(rt; replay.opened().is_empty());
     let first = RunMap::of(rt.alloc(), &plan)?;
@@ -255,7 +255,7 @@ fn what_is_legal_of_a_closed_granule(rt: HostRuntime) -> Result<(), Fail> {
 fn what_is_legal_of_an_open_granule(rt: HostRuntime) -> Result<(), Fail> {
     let mut replay = state(rt.alloc())?;
     assert!(rt;
-        told(
+        given(
             &mut replay,
             &changed(0, Gpi::NonSecure, Gpi::Realm),
             DELEGATE,
@@ -304,11 +304,11 @@ fn what_is_legal_of_an_open_granule(rt: HostRuntime) -> Result<(), Fail> {
             "{entry:?} of {task:?} with {answer:?}"
         );
     }
-    assert!(rt; told(&mut replay, &settled(0), DELEGATE, done(1))?);
+    assert!(rt; given(&mut replay, &settled(0), DELEGATE, done(1))?);
     let late = looked(Gpi::NonSecure, true);
     assert!(rt; !replay.legal(&late, LOOK, seen(Gpi::NonSecure, true, 1)));
     assert!(rt;
-        told(
+        given(
             &mut replay,
             &looked(Gpi::Realm, false),
             LOOK,

@@ -444,7 +444,7 @@ last_read xs x e =
 -- ---- what a test says
 
 pub fails : (b : Bool) (P : Type 0) → (P → IsTrue b) → b ≡ false → P → ⊥
-fails b P told e p = let both = sym e ∙ told p in cc
+fails b P given e p = let both = sym e ∙ given p in cc
 
 pub any_everywhere : (n : ℕ) → map (then_one 0 (λ _. gpi.Any) gpi.Any) (range_with_len 0 n) ≡ replicate n gpi.Any
 any_everywhere n = map_range_same (then_one 0 (λ _. gpi.Any) gpi.Any) 0 n gpi.Any (λ j lt. rw (le-ltb (0 + j) 0 (omega arith)) refl)

@@ -25,7 +25,7 @@ do_share s a b =
     nat_lt (first_granule s a) (first_granule s b + granule_count s b)
     && nat_lt (first_granule s b) (first_granule s a + granule_count s a)
 
--- the first two regions that share a granule: the least i, then the least j behind it, counted from n
+-- the first two regions that share a granule: the least i, then the least j after it, counted from n
 abbrev pub first_overlap : SetupData → ℕ → List Region → Option (ℕ × ℕ)
 first_overlap s n [] = None
 first_overlap s n (r ∷ rs) =

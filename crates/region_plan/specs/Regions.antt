@@ -59,7 +59,7 @@ tables_below regions q = length (tabled_below regions q)
 abbrev pub tables_needed : SetupData → List Region → ℕ
 tables_needed s regions = tables_below regions s.gigabytes
 
--- The entry of gigabyte q: the next table behind the base where it needs one, else a block, of the
+-- The entry of gigabyte q: the next table after the base where it needs one, else a block, of the
 -- GPI of the block region there or of any access.
 abbrev pub region_entry : SetupData → List Region → ℕ → L0Entry
 region_entry s regions q =

@@ -60,7 +60,7 @@ impl Plan {
         ensures plan { IfOk result (λ p. p ≡ record { setup = setup.now; regions = regions.now }) }
         ensures accepted { OnOk result (refusal setup.now regions.now ≡ None) }
         ensures refused { IfErr result (λ e. IsRefusal e (refusal setup.now regions.now)) }
-        ensures told { IfErr result (λ e. (refusal setup.now regions.now ≡ None) ⊎ (refusal setup.now regions.now ≡ Some e)) }
+        ensures given { IfErr result (λ e. (refusal setup.now regions.now ≡ None) ⊎ (refusal setup.now regions.now ≡ Some e)) }
     {
         match first_misplaced(setup, regions) {
             Some(error) => return Err(error),

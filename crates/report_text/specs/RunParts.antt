@@ -15,7 +15,7 @@ use Rattle.line_text.specs.Lines.{count, address}
 use Rattle.report_text.specs.TablesText.{line}
 use Rattle.report_text.specs.RunText.{size_name, space_number, held_line, generation_line, granule_lines}
 
--- the code of a monitor call and its word, each behind a space
+-- the code of a monitor call and its word, each after a space
 abbrev pub code_text : Bool → Answer → List ℕ
 code_text smc a = if smc && not (is_seen a) then codes " code " ++ signed_decimal (code_of a) else []
 

@@ -71,7 +71,7 @@ answer_fields (answer.Done generations) =
     codes "done" ∷ count generations.two ∷ count generations.thirty_two ∷ count generations.five_twelve ∷ []
 answer_fields (answer.Seen access) = verdict_name access.allowed ∷ name_of access.gpi ∷ count access.level ∷ via_fields access.via
 
--- the code of a monitor call, behind an answer that is none of an access
+-- the code of a monitor call, after an answer that is none of an access
 abbrev pub code_fields : Bool → Answer → List (List ℕ)
 code_fields smc a = if smc && not (is_seen a) then codes "code" ∷ signed_decimal (code_of a) ∷ [] else []
 

@@ -25,7 +25,7 @@ runs_from first (word ∷ rest) = runs_after first 1 word rest
 abbrev pub runs_of : List ℕ → List Run
 runs_of words = runs_from 0 words
 
--- each run has at least one word, and stands where the one before it ended
+-- each run has at least one word, and begins where the one before it ended
 abbrev pub AreJoined : ℕ → List Run → Type 0
 AreJoined n [] = Unit {0}
 AreJoined n (run ∷ runs) = (run.first ≡ n) × ((1 ≤ run.count) × AreJoined (n + run.count) runs)

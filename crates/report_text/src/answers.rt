@@ -36,7 +36,7 @@ fn name_of_verdict(allowed: bool) -> &'static str
     if allowed { "granted" } else { "fault" }
 }
 
-/// Appends how an access found its GPI, behind a space.
+/// Appends how an access found its GPI, after a space.
 fn push_via(out: &mut String, via: Via) -> Result<(), AllocError>
     ensures { OnOk result (string_bytes out.new ≡ string_bytes out.old ++ 32 ∷ join_with_byte 32 (via_fields via)) }
 {
@@ -65,7 +65,7 @@ fn push_via(out: &mut String, via: Via) -> Result<(), AllocError>
     }
 }
 
-/// Appends what an access saw, behind a space.
+/// Appends what an access saw, after a space.
 #[tactic(auto, using(crate::proofs::AnswerLemmas::join_via))]
 fn push_access(out: &mut String, access: &Access) -> Result<(), AllocError>
     ensures { OnOk result (string_bytes out.new ≡ string_bytes out.old ++ 32 ∷ join_with_byte 32 (answer_fields (Answer.Seen access.now))) }
@@ -77,7 +77,7 @@ fn push_access(out: &mut String, access: &Access) -> Result<(), AllocError>
     push_via(out, access.via)
 }
 
-/// Appends what a call was answered, behind a space.
+/// Appends what a call was answered, after a space.
 fn push_answer(out: &mut String, answer: &Answer) -> Result<(), AllocError>
     ensures { OnOk result (string_bytes out.new ≡ string_bytes out.old ++ 32 ∷ join_with_byte 32 (answer_fields answer.now)) }
 {
@@ -102,7 +102,7 @@ fn push_answer(out: &mut String, answer: &Answer) -> Result<(), AllocError>
     }
 }
 
-/// Appends the code that a monitor call returns, behind a space; nothing for other calls.
+/// Appends the code that a monitor call returns, after a space; nothing for other calls.
 fn push_code(out: &mut String, monitor: bool, answer: &Answer) -> Result<(), AllocError>
     ensures { OnOk result (string_bytes out.new ≡ string_bytes out.old ++ code_text monitor answer.now) }
 {

@@ -1,4 +1,4 @@
-/// Where a run of words stands: in the level 0 table, or in a level 1 table by its number, from 0.
+/// Where a run of words is: in the level 0 table, or in a level 1 table by its number, from 0.
 #[derive(Clone, Copy, Debug, PartialEq, Eq)]
 pub enum Level {
     Zero,

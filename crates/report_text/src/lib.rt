@@ -1,4 +1,4 @@
-//! Reports: the text that tells of tables.
+//! Reports: the text of tables and runs.
 #![tactic(auto)]
 
 mod answers;

@@ -11,7 +11,7 @@ use history::Outcome;
 use scenario_text::Scenario;
 use std::alloc::{AllocError, Global};
 
-/// Which command a report tells of.
+/// Which command a report is of.
 #[derive(Clone, Copy, Debug, PartialEq, Eq)]
 pub enum Mode {
     Play,

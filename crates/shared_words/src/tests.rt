@@ -19,7 +19,7 @@ fn one_table() -> Result<Geometry, Fail> {
     Ok(Geometry::new(setup, 2, l0.as_slice()))
 }
 
-/// L1 words that tell their own numbers, 1000 for the first one.
+/// L1 words that are their own numbers, 1000 for the first one.
 fn numbered(alloc: Global, count: u64) -> Result<Vec<u64>, AllocError>
     requires { count < 1000000 }
 {

@@ -3,7 +3,7 @@ use Rattle.std.specs.Prelude.{◌≡◌, ℕ, Bool, true, false}
 use Rattle.table_build.specs.declared.building.BuildError.{BuildError}
 use Rattle.table_build.specs.declared.building.BuildError.TheVariants as refused
 
--- the base is told where it is bad; want of memory comes only where it is good
+-- the base is reported where it is bad; want of memory comes only where it is good
 abbrev pub IsBadBase : BuildError → ℕ → Bool → Type 0
 IsBadBase refused.Memory base bad = bad ≡ false
-IsBadBase (refused.BadBase told) base bad = (told ≡ base) × (bad ≡ true)
+IsBadBase (refused.BadBase given) base bad = (given ≡ base) × (bad ≡ true)

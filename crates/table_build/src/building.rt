@@ -44,7 +44,7 @@ fn bad_base(plan: &Plan, base: u64) -> bool
     base % bytes != 0 || base > top
 }
 
-/// The address of the table behind so many others.
+/// The address of the table after `k` others.
 fn table_address(setup: &Setup, before: u64) -> u64
     requires { setup.now.base + before * table_bytes setup.now ≤ 2 ^ 52 }
     ensures { result ≡ setup.now.base + before * table_bytes setup.now }

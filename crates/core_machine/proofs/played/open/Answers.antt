@@ -24,8 +24,8 @@ returns-clause-machine c =
     ∙ opened_is c.args.scenario.now c.geometry_of-geometry.result c.args.tables.now c.l1.result.now c.in_ok-words.words c.in_ok-callers.callers.items c.geometry_of-geometry.ensures.geometry c.requires.built
     c.l1.ensures.words c.in_ok-words.ensures.words c.in_ok-callers.ensures
 
-pub returns-clause-stands : goal.returns-clause-stands
-returns-clause-stands c =
-    c.new-2.ensures.stands (first_map c.args.scenario.now)
+pub returns-clause-invariant : goal.returns-clause-invariant
+returns-clause-invariant c =
+    c.new-2.ensures.invariant (first_map c.args.scenario.now)
     (starts_at c.args.scenario.now c.geometry_of-geometry.result c.args.tables.now c.l1.result.now c.in_ok-words.words c.requires.accepted c.geometry_of-geometry.ensures.geometry c.geometry_of-geometry.ensures.known
     c.requires.built c.l1.ensures.tables c.l1.ensures.words c.in_ok-words.ensures.words)

@@ -2,7 +2,7 @@ use Rattle.std.proofs.Common.{◌≡◌, List, [], length, sym, ap, ◌∙◌, s
 use Rattle.std.specs.Prelude.{IfOk}
 use Rattle.std.specs.List.{All, flat_map}
 use Rattle.scenario_text.specs.declared.scenario.Slot.{Slot}
-use Rattle.core_machine.specs.InnerMachine.{MachineData, StandsFor, after_turns, told_in}
+use Rattle.core_machine.specs.InnerMachine.{MachineData, InvariantFor, after_turns, entries_in}
 use Rattle.core_machine.specs.InnerPlay.{NamesCaller, played, outcome_of, opening_of}
 use Rattle.core_machine.proofs.PlayLemmas.{names_at, played_is, played_stands}
 use Rattle.core_machine.proofs.RunLemmas.{run_left}
@@ -24,15 +24,15 @@ returns-clause-trace c =
 
 pub returns-clause-run : goal.returns-clause-run
 returns-clause-run c =
-    run_left c.args.scenario.now c.leave.result (subst (λ (m : MachineData). StandsFor (first_map c.args.scenario.now) m []) c.in_ok-machine.ensures.machine c.in_ok-machine.ensures.stands)
+    run_left c.args.scenario.now c.leave.result (subst (λ (m : MachineData). InvariantFor (first_map c.args.scenario.now) m []) c.in_ok-machine.ensures.machine c.in_ok-machine.ensures.invariant)
     (returns-clause-trace c)
 
 pub returns-clause-size : goal.returns-clause-size
 returns-clause-size c =
-    size_of (played c.args.scenario.now) (first_map c.args.scenario.now) (told_in (opening_of c.args.scenario.now) (turns_in c.args.scenario.now)) c.leave.result
-    (played_stands c.args.scenario.now c.in_ok-machine.machine c.in_ok-machine.ensures.machine c.in_ok-machine.ensures.stands) (returns-clause-trace c)
+    size_of (played c.args.scenario.now) (first_map c.args.scenario.now) (entries_in (opening_of c.args.scenario.now) (turns_in c.args.scenario.now)) c.leave.result
+    (played_stands c.args.scenario.now c.in_ok-machine.machine c.in_ok-machine.ensures.machine c.in_ok-machine.ensures.invariant) (returns-clause-trace c)
 
 pub returns-clause-answered : goal.returns-clause-answered
 returns-clause-answered c =
-    answers_of c.args.scenario.now (first_map c.args.scenario.now) (told_in (opening_of c.args.scenario.now) (turns_in c.args.scenario.now)) c.leave.result
-    (played_stands c.args.scenario.now c.in_ok-machine.machine c.in_ok-machine.ensures.machine c.in_ok-machine.ensures.stands) (returns-clause-trace c)
+    answers_of c.args.scenario.now (first_map c.args.scenario.now) (entries_in (opening_of c.args.scenario.now) (turns_in c.args.scenario.now)) c.leave.result
+    (played_stands c.args.scenario.now c.in_ok-machine.machine c.in_ok-machine.ensures.machine c.in_ok-machine.ensures.invariant) (returns-clause-trace c)

@@ -6,5 +6,5 @@ use Rattle.region_plan.proofs.run_map.ends_with.Goals as goal
 pub returns-in-Some : goal.returns-in-Some
 returns-in-Some c =
     let last = last_read c.args.runs.now c.in-Some.run'.now c.in-Some.ensures.value in
-    let told : (IsTrue c.eq.result → c.in-Some.run'.now.gpi ≡ c.args.gpi) × (c.in-Some.run'.now.gpi ≡ c.args.gpi → IsTrue c.eq.result) = search rules in
-    (λ t. last ∙ ap Some (told.0 t), λ e. told.1 (same_Some _ _ (sym last ∙ e)))
+    let given : (IsTrue c.eq.result → c.in-Some.run'.now.gpi ≡ c.args.gpi) × (c.in-Some.run'.now.gpi ≡ c.args.gpi → IsTrue c.eq.result) = search rules in
+    (λ t. last ∙ ap Some (given.0 t), λ e. given.1 (same_Some _ _ (sym last ∙ e)))

@@ -17,6 +17,6 @@ returns-then-begins_with-clause-follows c =
     let items = c.args.runs.now.items in
     let place : c.args.next ≤ length items = omega (arith, c.requires.place, c.args.runs.now.ok.0) in
     let begin : c.begin_of.result ≡ begin_of c.args.size (drop c.args.next items) = rw (c.deref.ensures.value, take_rest items c.args.next) at c.begin_of.ensures in
-    let told = rw (c.deref-else-granule-begin_of.ensures.value, take_rest items c.args.next) at c.begins_with.ensures in
+    let given = rw (c.deref-else-granule-begin_of.ensures.value, take_rest items c.args.next) at c.begins_with.ensures in
     rw c.remove.ensures.items (
-    follows_removed c.args.granule c.args.size c.args.next c.args.own c.args.new items place (told.0 c.if-begins_with.true) (omega (arith, begin)) c.requires.apart)
+    follows_removed c.args.granule c.args.size c.args.next c.args.own c.args.new items place (given.0 c.if-begins_with.true) (omega (arith, begin)) c.requires.apart)

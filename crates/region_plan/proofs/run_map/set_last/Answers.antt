@@ -19,18 +19,18 @@ pub returns-then-ends_with : goal.returns-then-ends_with
 returns-then-ends_with c =
     let items = c.args.runs.now.items in
     let place : c.args.at < length items = omega (arith, c.requires.place, c.args.runs.now.ok.0) in
-    let told = rw c.deref.ensures.value at c.ends_with.ensures in (
+    let given = rw c.deref.ensures.value at c.ends_with.ensures in (
       take c.args.at items,
       c.remove.ensures.items ∙ ap (λ (n : ℕ). take c.args.at items ++ drop n items) (sym (add-one c.args.at)),
-      set_joined items c.args.at c.args.granule c.args.gpi c.index.result.now place c.requires.own (rw c.index.ensures at c.if-index-granule.false) (told.0 c.if-ends_with.true),
+      set_joined items c.args.at c.args.granule c.args.gpi c.index.result.now place c.requires.own (rw c.index.ensures at c.if-index-granule.false) (given.0 c.if-ends_with.true),
     )
 
 pub returns-else-ends_with : goal.returns-else-ends_with
 returns-else-ends_with c =
     let items = c.args.runs.now.items in
     let place : c.args.at < length items = omega (arith, c.requires.place, c.args.runs.now.ok.0) in
-    let told = rw c.deref.ensures.value at c.ends_with.ensures in
-    let other = fails c.ends_with.result (last_gpi None (take c.args.at items) ≡ Some c.args.gpi) told.1 c.if-ends_with.false in
+    let given = rw c.deref.ensures.value at c.ends_with.ensures in
+    let other = fails c.ends_with.result (last_gpi None (take c.args.at items) ≡ Some c.args.gpi) given.1 c.if-ends_with.false in
     let read : c.index_mut.result.now ≡ c.index.result.now =
     c.index_mut.ensures.value ∙ get_or_default items c.args.at c.index_mut.result.now c.index.result.now place ∙ sym c.index.ensures in
     let begun = reached_first items c.args.at c.args.granule c.args.gpi c.index.result.now place c.requires.own in

@@ -1,6 +1,6 @@
 use Rattle.std.proofs.Common.{◌≡◌, ◌+◌, replicate, length, ap, ◌∙◌, arith}
 use Rattle.std.specs.List.{flat_map, range_with_len}
-use Rattle.core_machine.proofs.MachineLemmas.{stands_after, length_so, turns_more, range_front}
+use Rattle.core_machine.proofs.MachineLemmas.{holds_after, length_so, turns_more, range_front}
 use Rattle.core_machine.proofs.machine.Machine.round.Goals as goal
 
 pub turns-requires-clause-caller : goal.turns-requires-clause-caller
@@ -9,9 +9,9 @@ turns-requires-clause-caller g c =
     let end : length c.callers-caller-end.result.now ≡ length c.args.self.now.callers = ap length c.callers-caller-end.ensures in
     omega (arith, h, end, c.loop-caller-test.true)
 
-pub turns-requires-clause-stands : goal.turns-requires-clause-stands
-turns-requires-clause-stands g c =
-    stands_after c.args.self.now c.loop-caller.self (flat_map (replicate c.args.count) (range_with_len 0 c.loop-caller.caller)) c.loop-caller.invariant c.requires
+pub turns-requires-clause-invariant : goal.turns-requires-clause-invariant
+turns-requires-clause-invariant g c =
+    holds_after c.args.self.now c.loop-caller.self (flat_map (replicate c.args.count) (range_with_len 0 c.loop-caller.caller)) c.loop-caller.invariant c.requires
 
 pub loop-caller-preserved : goal.loop-caller-preserved
 loop-caller-preserved g c =

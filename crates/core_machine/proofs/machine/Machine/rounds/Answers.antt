@@ -1,13 +1,13 @@
 use Rattle.std.proofs.Common.{◌+◌, ℕ, length, ap, ◌∙◌}
 use Rattle.std.specs.List.{flat_map, range_with_len}
 use Rattle.core_machine.specs.InnerMachine.{after_turns}
-use Rattle.core_machine.proofs.MachineLemmas.{stands_after, length_so, turns_more, range_front}
+use Rattle.core_machine.proofs.MachineLemmas.{holds_after, length_so, turns_more, range_front}
 use Rattle.core_machine.proofs.machine.Machine.rounds.Goals as goal
 use Rattle.core_machine.specs.Scenarios.{round_turns}
 
 pub round-requires : goal.round-requires
 round-requires g c =
-    stands_after c.args.self.now c.loop.self (flat_map (λ (k : ℕ). round_turns (length c.args.self.now.callers) c.args.count) (range_with_len 0 c.loop.counter)) c.loop.invariant c.requires
+    holds_after c.args.self.now c.loop.self (flat_map (λ (k : ℕ). round_turns (length c.args.self.now.callers) c.args.count) (range_with_len 0 c.loop.counter)) c.loop.invariant c.requires
 
 pub loop-preserved : goal.loop-preserved
 loop-preserved g c =

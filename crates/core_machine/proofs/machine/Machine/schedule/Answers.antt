@@ -3,13 +3,13 @@ use Rattle.std.specs.List.{flat_map}
 use Rattle.scenario_text.specs.declared.scenario.Slot.TheVariants as slot
 use Rattle.core_machine.specs.InnerMachine.{after_turns}
 use Rattle.core_machine.specs.InnerPlay.{NamesCaller}
-use Rattle.core_machine.proofs.MachineLemmas.{stands_after, length_so, turns_more, slots_more}
+use Rattle.core_machine.proofs.MachineLemmas.{holds_after, length_so, turns_more, slots_more}
 use Rattle.core_machine.proofs.machine.Machine.schedule.Goals as goal
 use Rattle.core_machine.specs.Scenarios.{slot_turns}
 
-pub slot-requires-clause-stands : goal.slot-requires-clause-stands
-slot-requires-clause-stands g c =
-    stands_after c.args.self.now c.loop-slot.self (flat_map (slot_turns (length c.args.self.now.callers)) (take c.loop-slot.slot-index c.args.schedule.now)) c.loop-slot.invariant c.requires.stands
+pub slot-requires-clause-invariant : goal.slot-requires-clause-invariant
+slot-requires-clause-invariant g c =
+    holds_after c.args.self.now c.loop-slot.self (flat_map (slot_turns (length c.args.self.now.callers)) (take c.loop-slot.slot-index c.args.schedule.now)) c.loop-slot.invariant c.requires.invariant
 
 pub slot-requires-clause-names : goal.slot-requires-clause-names
 slot-requires-clause-names g c =

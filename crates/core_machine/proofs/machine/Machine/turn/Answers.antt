@@ -1,14 +1,14 @@
 use Rattle.std.proofs.Common.{◌<◌, ◌++◌, length, sym, ap, ◌∙◌, subst}
 use Rattle.core_machine.specs.InnerCallers.{MayTake}
-use Rattle.core_machine.specs.InnerMachine.{MachineData, StandsFor, after_turn, turn_told}
-use Rattle.core_machine.proofs.MachineLemmas.{may_act, acted, kept, turn_stands}
+use Rattle.core_machine.specs.InnerMachine.{MachineData, InvariantFor, after_turn, turn_entries}
+use Rattle.core_machine.proofs.MachineLemmas.{may_act, acted, kept, turn_holds}
 use Rattle.core_machine.proofs.machine.Machine.turn.Goals as goal
 
 pub apply-old-requires : goal.apply-old-requires
 apply-old-requires g c =
     let m : MachineData = record { geometry = c.self.inside.geometry; callers = c.self.inside.callers.items; words = g.W.Words.words c.self.inside.words } in
-    (may_act c.requires.stands.0 c.requires.stands.1 m c.args.caller c.index_mut-acting.result.now c.in-Some.act
-    (subst (λ (n : MachineData). StandsFor c.requires.stands.0 n c.requires.stands.1) (sym c.self.view_is) c.requires.stands.2)
+    (may_act c.requires.invariant.0 c.requires.invariant.1 m c.args.caller c.index_mut-acting.result.now c.in-Some.act
+    (subst (λ (n : MachineData). InvariantFor c.requires.invariant.0 n c.requires.invariant.1) (sym c.self.view_is) c.requires.invariant.2)
     (subst (λ (n : MachineData). c.args.caller < length n.callers) (sym c.self.view_is) c.requires.caller)
     c.index_mut-acting.ensures.value (sym c.next.ensures ∙ c.in-Some.is)).0
 
@@ -16,8 +16,8 @@ pub took-requires-clause-readable : goal.took-requires-clause-readable
 took-requires-clause-readable g c =
     let m : MachineData = record { geometry = c.self.inside.geometry; callers = c.self.inside.callers.items; words = g.W.Words.words c.self.inside.words } in
     subst (MayTake c.index_mut-acting.result.now) (sym c.apply-old.ensures.answer)
-    ((may_act c.requires.stands.0 c.requires.stands.1 m c.args.caller c.index_mut-acting.result.now c.in-Some.act
-    (subst (λ (n : MachineData). StandsFor c.requires.stands.0 n c.requires.stands.1) (sym c.self.view_is) c.requires.stands.2)
+    ((may_act c.requires.invariant.0 c.requires.invariant.1 m c.args.caller c.index_mut-acting.result.now c.in-Some.act
+    (subst (λ (n : MachineData). InvariantFor c.requires.invariant.0 n c.requires.invariant.1) (sym c.self.view_is) c.requires.invariant.2)
     (subst (λ (n : MachineData). c.args.caller < length n.callers) (sym c.self.view_is) c.requires.caller)
     c.index_mut-acting.ensures.value (sym c.next.ensures ∙ c.in-Some.is)).1)
 
@@ -29,10 +29,10 @@ returns-in-Some-clause-turn g c =
     c.index_mut-acting.ensures.value (sym c.next.ensures ∙ c.in-Some.is) c.apply-old.ensures.answer c.apply-old.ensures.after c.took.ensures
     ∙ ap (λ (n : MachineData). after_turn n c.args.caller) c.self.view_is
 
-pub returns-in-Some-clause-stands : goal.returns-in-Some-clause-stands
-returns-in-Some-clause-stands g c = λ first h stands.
-    subst (λ (n : MachineData). StandsFor first n (h ++ turn_told c.args.self.now c.args.caller)) (sym (returns-in-Some-clause-turn g c))
-    (turn_stands first c.args.self.now h c.args.caller stands)
+pub returns-in-Some-clause-invariant : goal.returns-in-Some-clause-invariant
+returns-in-Some-clause-invariant g c = λ first h stands.
+    subst (λ (n : MachineData). InvariantFor first n (h ++ turn_entries c.args.self.now c.args.caller)) (sym (returns-in-Some-clause-turn g c))
+    (turn_holds first c.args.self.now h c.args.caller stands)
 
 pub returns-in_default-clause-turn : goal.returns-in_default-clause-turn
 returns-in_default-clause-turn g c =
@@ -42,7 +42,7 @@ returns-in_default-clause-turn g c =
     c.index_mut-acting.ensures.value (sym c.next.ensures ∙ c.in_default.is)
     ∙ ap (λ (n : MachineData). after_turn n c.args.caller) c.self.view_is
 
-pub returns-in_default-clause-stands : goal.returns-in_default-clause-stands
-returns-in_default-clause-stands g c = λ first h stands.
-    subst (λ (n : MachineData). StandsFor first n (h ++ turn_told c.args.self.now c.args.caller)) (sym (returns-in_default-clause-turn g c))
-    (turn_stands first c.args.self.now h c.args.caller stands)
+pub returns-in_default-clause-invariant : goal.returns-in_default-clause-invariant
+returns-in_default-clause-invariant g c = λ first h stands.
+    subst (λ (n : MachineData). InvariantFor first n (h ++ turn_entries c.args.self.now c.args.caller)) (sym (returns-in_default-clause-turn g c))
+    (turn_holds first c.args.self.now h c.args.caller stands)
