@@ -147,8 +147,8 @@ table_inside [] r table = absurd cc
 table_inside (w ∷ ws) zero table = omega arith
 table_inside (w ∷ ws) (suc r) table = omega (arith, table_inside ws r table)
 
--- a word that has a place stands in the protected space
-index_inside : (g : GeometryData) (w i : ℕ) → IsGeometry g → l1_index g.setup (l0_words g) w ≡ Some i → w < space_words g.setup
+-- a word that has a place is in the protected space
+pub index_inside : (g : GeometryData) (w i : ℕ) → IsGeometry g → l1_index g.setup (l0_words g) w ≡ Some i → w < space_words g.setup
 index_inside g w i geometry at =
     let s = g.setup in
     let parts = cond_some (is_table (get_or (l0_words g) (w / table_words s) 0)) (table_count (take (w / table_words s) (l0_words g)) * table_words s + w % table_words s) i at in
@@ -157,7 +157,7 @@ index_inside g w i geometry at =
     let fits = mul-add-lt (w / table_words s) (table_words s) (w % table_words s) s.gigabytes row (mod_below w (table_words s) (table_words_low s)) in
     omega (arith, fits, div-add-mod' w (table_words s), mul_comm (table_words s) s.gigabytes)
 
-index_below : (g : GeometryData) (w i : ℕ) → IsGeometry g → l1_index g.setup (l0_words g) w ≡ Some i → i < l1_words g
+pub index_below : (g : GeometryData) (w i : ℕ) → IsGeometry g → l1_index g.setup (l0_words g) w ≡ Some i → i < l1_words g
 index_below g w i geometry at = subst (λ (n : ℕ). i < n * table_words g.setup) (sym geometry.tables) (l1_index_within g.setup (l0_words g) w i at)
 
 -- its granules have the map's GPIs

@@ -19,6 +19,7 @@ use Rattle.history.specs.declared.outcome.Outcome.{Outcome}
 use Rattle.delegate_ops.specs.declared.stage.Stage.{Stage}
 use Rattle.delegate_ops.specs.declared.stage.Stage.TheVariants as stage
 use Rattle.delegate_ops.specs.Agents.{AgentData, is_held, took_at, took_under_way, task_of}
+use Rattle.core_machine.specs.Laws.{agent_tasks}
 use Rattle.core_machine.specs.declared.caller.Caller.{Caller}
 use Rattle.core_machine.specs.declared.caller.Caller.TheVariants as caller
 use Rattle.core_machine.specs.InnerCallers.{caller_next, caller_took, caller_answers}
@@ -33,11 +34,6 @@ use Rattle.core_machine.specs.Scenarios.{geometry_of, task_of_ask, turns_in}
 abbrev calls_of : Caller → ℕ
 calls_of (caller.Agent a) = length a.tasks
 calls_of (caller.Cpu looks) = looks
-
--- the tasks of an agent
-abbrev pub agent_tasks : Caller → Option (List Task)
-agent_tasks (caller.Agent a) = Some a.tasks
-agent_tasks (caller.Cpu looks) = None
 
 pub took_tasks : (x : Caller) (old : ℕ) → agent_tasks (caller_took x old) ≡ agent_tasks x
 took_tasks (caller.Agent a) old = ap Some (took_leaves a (task_of a) old).1

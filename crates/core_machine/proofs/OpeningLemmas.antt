@@ -34,6 +34,7 @@ use Rattle.delegate_ops.specs.Deciding.{granule_place}
 use Rattle.core_machine.specs.InnerOpening.{AreStarting}
 use Rattle.core_machine.specs.InnerTables.{table_gpi, table_word, MeansMap}
 use Rattle.core_machine.proofs.TableLemmas.{granule_back}
+use Rattle.core_machine.proofs.ChangeLemmas.{index_inside, index_below}
 
 -- ---- lists
 
@@ -164,7 +165,19 @@ built_means g regions geometry level0 accepted good size = record {
       subst (λ (n : ℕ). n < 2 ^ 64) (sym (level1_word g words i size i_in)) (built_fit g.setup regions i (subst (λ (n : ℕ). i < n) (sym size) i_in)).below;
 }
 
--- all that stands before the first act
+built_canonical : (g : GeometryData) (regions : List Region) (w i : ℕ) → IsGeometry g → l0_words g ≡ region_l0 g.setup regions
+    → refusal g.setup regions ≡ None → is_bad_base g.setup regions ≡ false → length (region_l1 g.setup regions) ≡ l1_words g → l1_index g.setup (l0_words g) w ≡ Some i
+    → table_word g (start_words g (region_l1 g.setup regions)) i ≡ canonical_word g.setup (region_map g.setup regions) None w
+built_canonical g regions w i geometry level0 accepted good size at =
+    let s = g.setup in
+    let inside : 16 * w < space_granules s = omega (arith, index_inside g w i geometry at) in
+    let row : 16 * w / 16 ≡ w = omega arith in
+    let some : l1_index s (region_l0 s regions) (16 * w / 16) ≡ Some i = ap (λ (words : List ℕ). l1_index s words (16 * w / 16)) (sym level0) ∙ ap (l1_index s (l0_words g)) row ∙ at in
+    level1_word g (region_l1 s regions) i size (index_below g w i geometry at)
+    ∙ index_of (region_l1 s regions) i (canonical_word s (region_map s regions) None (16 * w / 16)) (built_word s regions (16 * w) i accepted good inside some)
+    ∙ ap (canonical_word s (region_map s regions) None) row
+
+-- all that holds before the first act
 pub built_starts : (g : GeometryData) (regions : List Region) → IsGeometry g → l0_words g ≡ region_l0 g.setup regions
     → refusal g.setup regions ≡ None → is_bad_base g.setup regions ≡ false → length (region_l1 g.setup regions) ≡ l1_words g
     → AreStarting g (map (region_map g.setup regions) (range_with_len 0 (space_granules g.setup))) (start_words g (region_l1 g.setup regions))
@@ -174,6 +187,11 @@ built_starts g regions geometry level0 accepted good size = record {
   free = λ n low. index_of (start_words g (region_l1 g.setup regions)) (place_of g (Lock n)) 0 (start_named g (region_l1 g.setup regions) (Lock n) size low);
   granules = length-map-range_with_len (region_map g.setup regions) 0 (space_granules g.setup);
   tables = built_means g regions geometry level0 accepted good size;
+  canonical = (
+    region_map g.setup regions,
+    (λ granule within. get_mapped (region_map g.setup regions) 0 (space_granules g.setup) granule within ∙ ap (λ (n : ℕ). Some (region_map g.setup regions n)) (let same : 0 + granule ≡ granule = omega arith in same)),
+    (λ w i at. built_canonical g regions w i geometry level0 accepted good size at),
+  );
   duty = λ cpu low. index_of (start_words g (region_l1 g.setup regions)) (place_of g (Duty cpu)) 0 (start_named g (region_l1 g.setup regions) (Duty cpu) size low);
   lines = λ i low. index_of (start_words g (region_l1 g.setup regions)) (place_of g (Line i)) 0 (start_named g (region_l1 g.setup regions) (Line i) size low);
   generations = λ y region within.

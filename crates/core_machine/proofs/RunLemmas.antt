@@ -59,7 +59,8 @@ use Rattle.delegate_ops.proofs.NextLemmas.{next_there}
 use Rattle.scenario_text.specs.declared.scenario.Look.{Look}
 use Rattle.core_machine.proofs.LegalLemmas.{HaveTasks, AreMade, made_legal, made_calls}
 use Rattle.core_machine.proofs.PlayLemmas.{turns_geometry}
-use Rattle.core_machine.proofs.FitLemmas.{agent_tasks, took_tasks, turns_leave}
+use Rattle.core_machine.specs.Laws.{agent_tasks}
+use Rattle.core_machine.proofs.FitLemmas.{took_tasks, turns_leave}
 use Rattle.core_machine.specs.Facts.{IsCounted, generation_word, FitsHistory}
 use Rattle.core_machine.specs.Trace.{TraceEvent, events_of, FollowsScript, HasEnded, IsTrace, answers_by, history_of}
 use Rattle.core_machine.specs.Scenarios.{first_map, geometry_of, task_of_ask, tasks_of, turns_in, first_words}
@@ -115,7 +116,7 @@ counts_told g first words callers h tasks stands have c k t given asked answered
 
 -- ---- generations
 
-some_or_none : (p : Caller → Bool) (callers : List Caller) → (count_by p callers ≡ 0) ⊎ ((c : ℕ) × (x : Caller) × (slice_get callers c ≡ Some x) × (p x ≡ true))
+pub some_or_none : (p : Caller → Bool) (callers : List Caller) → (count_by p callers ≡ 0) ⊎ ((c : ℕ) × (x : Caller) × (slice_get callers c ≡ Some x) × (p x ≡ true))
 some_or_none p [] = inl refl
 some_or_none p (x ∷ callers) =
     let counted : count_by p (x ∷ callers) ≡ one (p x) + count_by p callers = sum_by-cons (λ z. one (p z)) x callers in

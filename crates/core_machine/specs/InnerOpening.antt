@@ -1,13 +1,15 @@
 -- Words and callers before the first act.
-use Rattle.std.specs.Prelude.{◌≡◌, ℕ, ◌*◌, ◌<◌, List, length, slice_index}
+use Rattle.std.specs.Prelude.{◌≡◌, ℕ, ◌*◌, ◌<◌, List, length, slice_get, slice_index, Some, None}
 use Rattle.gpi_values.specs.declared.gpi.Gpi.{Gpi}
 use Rattle.gpt_descriptors.specs.declared.size.Size.{Size}
 use Rattle.gpt_descriptors.specs.Sizes.{space_granules}
-use Rattle.gpt_descriptors.specs.Places.{GeometryData, IsGeometry, Lock, Duty, Line, place_of, l1_words, word_count, blocks_in_region}
+use Rattle.gpt_descriptors.specs.Canonical.{canonical_word}
+use Rattle.gpt_descriptors.specs.Level0.{l1_index}
+use Rattle.gpt_descriptors.specs.Places.{GeometryData, IsGeometry, Lock, Duty, Line, place_of, l0_words, l1_words, word_count, blocks_in_region}
 use Rattle.delegate_ops.specs.Agents.{IsAgent, fresh}
 use Rattle.core_machine.specs.declared.caller.Caller.{Caller}
 use Rattle.core_machine.specs.declared.caller.Caller.TheVariants as caller
-use Rattle.core_machine.specs.InnerTables.{MeansMap}
+use Rattle.core_machine.specs.InnerTables.{table_word, MeansMap}
 use Rattle.core_machine.specs.Facts.{generation_word}
 
 -- the caller was made with this geometry and has made no act
@@ -15,13 +17,21 @@ abbrev pub IsFresh : GeometryData → Caller → Type 0
 IsFresh g (caller.Agent a) = (a ≡ fresh g a.tasks) × IsAgent a
 IsFresh g (caller.Cpu looks) = Unit {0}
 
--- all words are there, no lock is held, the tables mean a map, and each generation is the first one
+-- each L1 word is the canonical word of this map
+abbrev pub AreCanonicalWords : GeometryData → List Gpi → List ℕ → Type 0
+AreCanonicalWords g first words =
+    (m : ℕ → Gpi) × ((granule : ℕ) → granule < space_granules g.setup → slice_get first granule ≡ Some (m granule))
+    × ((w i : ℕ) → l1_index g.setup (l0_words g) w ≡ Some i → table_word g words i ≡ canonical_word g.setup m None w)
+
+-- All words are there, no lock is held, the tables mean a map and their words are its canonical ones, duty words
+-- and lines are 0, and each generation is the first one.
 pub record AreStarting (g : GeometryData) (first : List Gpi) (words : List ℕ) : Type 0 where
   pub geometry : IsGeometry g
   pub size : length words ≡ word_count g
   pub free : (n : ℕ) → n < 2 → slice_index words (place_of g (Lock n)) ≡ 0
   pub granules : length first ≡ space_granules g.setup
   pub tables : MeansMap g words first
+  pub canonical : AreCanonicalWords g first words
   pub duty : (cpu : ℕ) → cpu < g.cpus → slice_index words (place_of g (Duty cpu)) ≡ 0
   pub lines : (i : ℕ) → i < l1_words g → slice_index words (place_of g (Line i)) ≡ 0
   pub generations : (y : Size) (region : ℕ) → region < blocks_in_region y * g.setup.gigabytes → generation_word g words y region ≡ g.setup.first

@@ -11,6 +11,6 @@ mod playing;
 
 pub use caller::Caller;
 pub use calling::callers;
-pub use law::one_act_keeps;
+pub use law::{callers_keep_to_their_words, one_act_keeps, waits_have_causes};
 pub use machine::Machine;
 pub use played::play;

@@ -28,7 +28,8 @@ impl<W: Words> Model for Machine<W> {
 
 impl<W: Words> Machine<W> {
     /// A machine before the first act: the callers were made with this geometry and have made no act,
-    /// all shared words are there, no lock is held, and the tables among them mean a map. It has the
+    /// all shared words are there, no lock is held, the tables among them mean a map and their words
+    /// are its canonical ones, duty words and lines are 0, and each generation is the first one. It has the
     /// invariant with the empty history from that map.
     pub fn new(geometry: Geometry, callers: Vec<Caller>, words: W) -> Machine<W>
         requires fresh { All (IsFresh geometry) callers.items }
