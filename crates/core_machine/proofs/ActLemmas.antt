@@ -22,7 +22,7 @@ use Rattle.history.proofs.HistoryLemmas.{state_after-append}
 use Rattle.delegate_ops.specs.declared.stage.Stage.{Stage}
 use Rattle.delegate_ops.specs.declared.stage.Stage.TheVariants as stage
 use Rattle.delegate_ops.specs.Deciding.{address_of, idle_answer}
-use Rattle.delegate_ops.specs.Agents.{AgentData, IsAgent, task_of, goes_to}
+use Rattle.delegate_ops.specs.InnerAgents.{AgentData, IsAgent, task_of, goes_to}
 use Rattle.delegate_ops.proofs.DecidingLemmas.{acts_inside}
 use Rattle.delegate_ops.proofs.AgentLemmas.{at_stage}
 use Rattle.core_machine.specs.declared.caller.Caller.{Caller}

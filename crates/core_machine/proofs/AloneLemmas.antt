@@ -23,7 +23,7 @@ use Rattle.history.specs.Counts.{is_by}
 use Rattle.core_machine.specs.InnerAlone.{IsAlone}
 use Rattle.core_machine.proofs.ListLemmas.{all_one}
 use Rattle.core_machine.specs.Facts.{AreUndisturbed, is_on_block}
-use Rattle.delegate_ops.specs.Agents.{fresh}
+use Rattle.delegate_ops.specs.InnerAgents.{fresh}
 
 -- ---- lists in parts
 

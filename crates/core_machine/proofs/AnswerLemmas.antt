@@ -26,7 +26,7 @@ use Rattle.delegate_ops.specs.declared.stage.Change.{Change}
 use Rattle.delegate_ops.specs.declared.stage.Change.TheVariants as change
 use Rattle.delegate_ops.specs.declared.stage.Stage.{Stage}
 use Rattle.delegate_ops.specs.declared.stage.Stage.TheVariants as stage
-use Rattle.delegate_ops.specs.Agents.{AgentData, task_of, HasActs, IsStage}
+use Rattle.delegate_ops.specs.InnerAgents.{AgentData, task_of, HasActs, IsStage}
 use Rattle.core_machine.specs.declared.caller.Caller.{Caller}
 use Rattle.core_machine.specs.declared.caller.Caller.TheVariants as caller
 use Rattle.std.proofs.lemmas.Option.{slice_get_cases}

@@ -7,7 +7,7 @@ use Rattle.scenario_text.specs.declared.scenario.Ask.{Ask}
 use Rattle.scenario_text.specs.declared.scenario.Ask.TheVariants as ask
 use Rattle.rmm_calls.specs.Codes.{is_admitted}
 use Rattle.history.specs.declared.call.Task.{Task}
-use Rattle.delegate_ops.specs.Agents.{is_look}
+use Rattle.delegate_ops.specs.InnerAgents.{is_look}
 use Rattle.core_machine.specs.Scenarios.{task_of_ask}
 
 ask_no_look : (a : Ask) → is_look (task_of_ask a) ≡ false

@@ -17,7 +17,7 @@ use Rattle.delegate_ops.specs.declared.stage.Stage.TheVariants as stage
 use Rattle.delegate_ops.specs.Deciding.{address_of, idle_answer, generation_in}
 use Rattle.delegate_ops.specs.Changing.{changed_word}
 use Rattle.delegate_ops.specs.Script.{lock_bit_of}
-use Rattle.delegate_ops.specs.Agents.{AgentData, HasActs, IsAgent, task_of, act_at, took_of}
+use Rattle.delegate_ops.specs.InnerAgents.{AgentData, HasActs, IsAgent, task_of, act_at, took_of}
 use Rattle.delegate_ops.proofs.DecidingLemmas.{acts_inside}
 use Rattle.delegate_ops.proofs.AgentLemmas.{took_is_agent}
 use Rattle.delegate_ops.proofs.NextLemmas.{next_there}

@@ -23,7 +23,7 @@ use Rattle.delegate_ops.specs.declared.stage.Kept.{Kept}
 use Rattle.delegate_ops.specs.declared.stage.Stage.TheVariants as stage
 use Rattle.delegate_ops.specs.Deciding.{address_of, granule_place}
 use Rattle.delegate_ops.specs.Changing.{from_of, to_of, changed_word, raised}
-use Rattle.delegate_ops.specs.Agents.{AgentData, kept_changed, goes_to, took_at}
+use Rattle.delegate_ops.specs.InnerAgents.{AgentData, kept_changed, goes_to, took_at}
 use Rattle.delegate_ops.proofs.DecidingLemmas.{acts_usable, acts_inside}
 use Rattle.delegate_ops.proofs.FieldEntryLemmas.{with_granules, with_same}
 use Rattle.delegate_ops.proofs.AgentLemmas.{at_stage}

@@ -29,7 +29,7 @@ use Rattle.delegate_ops.specs.declared.stage.Change.TheVariants as change
 use Rattle.delegate_ops.specs.declared.stage.Stage.{Stage}
 use Rattle.delegate_ops.specs.declared.stage.Stage.TheVariants as stage
 use Rattle.delegate_ops.specs.Deciding.{address_of, idle_answer, granule_place, is_needed, refusal_of, generation_in}
-use Rattle.delegate_ops.specs.Agents.{IsChangeOf, IsStage}
+use Rattle.delegate_ops.specs.InnerAgents.{IsChangeOf, IsStage}
 use Rattle.delegate_ops.specs.Script.{CallEvent, Decides, IsCall, change_entry}
 use Rattle.delegate_ops.proofs.DecidingLemmas.{acts_inside}
 use Rattle.core_machine.proofs.ListLemmas.{all_one}

@@ -16,7 +16,7 @@ use Rattle.delegate_ops.specs.declared.stage.Stage.{Stage}
 use Rattle.delegate_ops.specs.declared.stage.Stage.TheVariants as stage
 use Rattle.delegate_ops.specs.Deciding.{address_of, generation_in}
 use Rattle.delegate_ops.specs.Changing.{changed_word}
-use Rattle.delegate_ops.specs.Agents.{AgentData, HasActs, task_of, act_at, next_of, is_held, took_at, took_under_way, took_of}
+use Rattle.delegate_ops.specs.InnerAgents.{AgentData, HasActs, task_of, act_at, next_of, is_held, took_at, took_under_way, took_of}
 use Rattle.delegate_ops.proofs.AgentLemmas.{at_stage, took_is_agent}
 use Rattle.delegate_ops.proofs.ScriptLemmas.{some_mapped, step_walks}
 use Rattle.core_machine.specs.declared.caller.Caller.{Caller}

@@ -35,7 +35,7 @@ use Rattle.delegate_ops.specs.declared.stage.Stage.{Stage}
 use Rattle.delegate_ops.specs.declared.stage.Stage.TheVariants as stage
 use Rattle.delegate_ops.specs.Deciding.{address_of, idle_answer, is_needed, refusal_of, granule_place, looked_answer, is_granules, generation_in, worn_answer, is_unusable}
 use Rattle.delegate_ops.specs.Changing.{first_change, from_of, raised}
-use Rattle.delegate_ops.specs.Agents.{AgentData, is_look, looked_stage, read_all, read_stage, kept_read, goes_to, took_at, fresh}
+use Rattle.delegate_ops.specs.InnerAgents.{AgentData, is_look, looked_stage, read_all, read_stage, kept_read, goes_to, took_at, fresh}
 use Rattle.delegate_ops.proofs.DecidingLemmas.{acts_usable, acts_inside}
 use Rattle.delegate_ops.proofs.AgentLemmas.{at_stage, no_look_at}
 use Rattle.core_machine.specs.declared.caller.Caller.{Caller}

@@ -22,7 +22,7 @@ use Rattle.history.specs.Calls.{entries_by, answered_entries}
 use Rattle.delegate_ops.specs.declared.stage.Stage.{Stage}
 use Rattle.delegate_ops.specs.declared.stage.Stage.TheVariants as stage
 use Rattle.delegate_ops.specs.Deciding.{idle_answer, is_unusable}
-use Rattle.delegate_ops.specs.Agents.{AgentData, IsReadable, answered_first, idle_answers, goes_to, waits_at, after_answer, took_at}
+use Rattle.delegate_ops.specs.InnerAgents.{AgentData, IsReadable, answered_first, idle_answers, goes_to, waits_at, after_answer, took_at}
 use Rattle.delegate_ops.proofs.AgentLemmas.{at_stage}
 use Rattle.core_machine.specs.declared.caller.Caller.{Caller}
 use Rattle.core_machine.specs.declared.caller.Caller.TheVariants as caller

@@ -22,7 +22,7 @@ use Rattle.history.specs.Entries.{caller_in}
 use Rattle.history.specs.Calls.{answered_entries}
 use Rattle.history.specs.declared.call.Task.{Task}
 use Rattle.history.specs.declared.call.Answer.{Answer}
-use Rattle.delegate_ops.specs.Agents.{AgentData, idle_answers}
+use Rattle.delegate_ops.specs.InnerAgents.{AgentData, idle_answers}
 use Rattle.delegate_ops.proofs.ScriptLemmas.{fresh_walked}
 use Rattle.core_machine.specs.InnerOpened.{open_by, pairs_of}
 use Rattle.core_machine.specs.InnerSeen.{Sees}

@@ -13,7 +13,7 @@ use Rattle.history.specs.States.{State, is_open, without}
 use Rattle.delegate_ops.specs.declared.stage.Stage.{Stage}
 use Rattle.delegate_ops.specs.declared.stage.Stage.TheVariants as stage
 use Rattle.delegate_ops.specs.Deciding.{address_of}
-use Rattle.delegate_ops.specs.Agents.{AgentData, task_of}
+use Rattle.delegate_ops.specs.InnerAgents.{AgentData, task_of}
 use Rattle.core_machine.specs.declared.caller.Caller.{Caller}
 use Rattle.core_machine.specs.declared.caller.Caller.TheVariants as caller
 use Rattle.core_machine.specs.InnerLocks.{is_inside, LocksAreHeld}

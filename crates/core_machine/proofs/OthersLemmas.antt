@@ -21,7 +21,7 @@ use Rattle.history.specs.Counts.{region_of}
 use Rattle.delegate_ops.specs.declared.stage.Stage.{Stage}
 use Rattle.delegate_ops.specs.declared.stage.Stage.TheVariants as stage
 use Rattle.delegate_ops.specs.Deciding.{address_of, idle_answer}
-use Rattle.delegate_ops.specs.Agents.{AgentData, HasActs, task_of}
+use Rattle.delegate_ops.specs.InnerAgents.{AgentData, HasActs, task_of}
 use Rattle.delegate_ops.proofs.DecidingLemmas.{acts_usable}
 use Rattle.core_machine.specs.declared.caller.Caller.{Caller}
 use Rattle.core_machine.specs.declared.caller.Caller.TheVariants as caller

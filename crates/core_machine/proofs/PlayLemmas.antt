@@ -20,7 +20,7 @@ use Rattle.scenario_text.specs.declared.scenario.Slot.TheVariants as slot
 use Rattle.scenario_text.specs.Spelling.{IsSlot, WellFormed}
 use Rattle.shared_words.specs.declared.act.Act.{Act}
 use Rattle.history.specs.declared.call.Task.{Task}
-use Rattle.delegate_ops.specs.Agents.{IsAgent, is_look, task_of, fresh}
+use Rattle.delegate_ops.specs.InnerAgents.{IsAgent, is_look, task_of, fresh}
 use Rattle.delegate_ops.proofs.AgentLemmas.{idle_few, idle_then_acts, locking_fits}
 use Rattle.core_machine.specs.declared.caller.Caller.{Caller}
 use Rattle.core_machine.specs.InnerCallers.{caller_next}

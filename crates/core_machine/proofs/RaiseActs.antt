@@ -26,7 +26,7 @@ use Rattle.delegate_ops.specs.declared.stage.Stage.{Stage}
 use Rattle.delegate_ops.specs.declared.stage.Stage.TheVariants as stage
 use Rattle.delegate_ops.specs.Deciding.{address_of, generation_in}
 use Rattle.delegate_ops.specs.Changing.{from_of, to_of, raised_at, raised}
-use Rattle.delegate_ops.specs.Agents.{AgentData, IsChangeOf, IsStage, task_of, kept_raised, raised_stage, goes_to, took_at}
+use Rattle.delegate_ops.specs.InnerAgents.{AgentData, IsChangeOf, IsStage, task_of, kept_raised, raised_stage, goes_to, took_at}
 use Rattle.delegate_ops.proofs.DecidingLemmas.{acts_inside}
 use Rattle.delegate_ops.proofs.AgentLemmas.{at_stage}
 use Rattle.core_machine.specs.declared.caller.Caller.{Caller}

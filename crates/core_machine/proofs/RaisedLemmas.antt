@@ -15,7 +15,7 @@ use Rattle.history.specs.Counts.{region_of, count_of}
 use Rattle.delegate_ops.specs.declared.stage.Stage.{Stage}
 use Rattle.delegate_ops.specs.declared.stage.Stage.TheVariants as stage
 use Rattle.delegate_ops.specs.Deciding.{address_of, generation_in}
-use Rattle.delegate_ops.specs.Agents.{AgentData, task_of}
+use Rattle.delegate_ops.specs.InnerAgents.{AgentData, task_of}
 use Rattle.delegate_ops.proofs.DecidingLemmas.{acts_inside}
 use Rattle.core_machine.specs.declared.caller.Caller.{Caller}
 use Rattle.core_machine.specs.declared.caller.Caller.TheVariants as caller

@@ -31,7 +31,7 @@ use Rattle.history.specs.Counts.{region_of, count_of}
 use Rattle.delegate_ops.specs.declared.stage.Stage.{Stage}
 use Rattle.delegate_ops.specs.declared.stage.Stage.TheVariants as stage
 use Rattle.delegate_ops.specs.Deciding.{address_of, HasCause}
-use Rattle.delegate_ops.specs.Agents.{AgentData, fresh, task_of, took_of, IsAgent, has_ended, next_of}
+use Rattle.delegate_ops.specs.InnerAgents.{AgentData, fresh, task_of, took_of, IsAgent, has_ended, next_of}
 use Rattle.delegate_ops.proofs.DecidingLemmas.{acts_inside}
 use Rattle.delegate_ops.specs.Script.{CallEvent, granule_of_task, Follows, HasStopped}
 use Rattle.delegate_ops.proofs.ScriptLemmas.{some_mapped}

@@ -17,7 +17,7 @@ use Rattle.history.specs.Entries.{caller_in, call_in}
 use Rattle.history.specs.States.{State, start, after_entry, state_after}
 use Rattle.history.specs.Calls.{entries_by, call_entries, answered_entries}
 use Rattle.delegate_ops.specs.Deciding.{is_unusable, idle_answer}
-use Rattle.delegate_ops.specs.Agents.{answered_first, idle_answers}
+use Rattle.delegate_ops.specs.InnerAgents.{answered_first, idle_answers}
 use Rattle.core_machine.specs.declared.caller.Caller.{Caller}
 use Rattle.core_machine.specs.InnerCallers.{own_of}
 use Rattle.core_machine.specs.InnerHistory.{AreAllowed, IsHistoryOf}

@@ -29,7 +29,7 @@ use Rattle.scenario_text.specs.declared.scenario.Script.{Script}
 use Rattle.scenario_text.specs.declared.scenario.Script.TheVariants as script
 use Rattle.delegate_ops.specs.declared.stage.Stage.{Stage}
 use Rattle.delegate_ops.specs.declared.stage.Stage.TheVariants as stage
-use Rattle.delegate_ops.specs.Agents.{AgentData, fresh, task_of, took_of, HasActs, act_at}
+use Rattle.delegate_ops.specs.InnerAgents.{AgentData, fresh, task_of, took_of, HasActs, act_at}
 use Rattle.delegate_ops.proofs.ScriptLemmas.{fresh_walked, step_walks}
 use Rattle.core_machine.specs.declared.caller.Caller.{Caller}
 use Rattle.core_machine.specs.declared.caller.Caller.TheVariants as caller

@@ -9,7 +9,7 @@ use Rattle.history.specs.Counts.{is_by}
 use Rattle.core_machine.specs.declared.caller.Caller.{Caller}
 use Rattle.core_machine.specs.InnerCallers.{call_of}
 use Rattle.core_machine.specs.InnerLocks.{holds}
-use Rattle.delegate_ops.specs.Agents.{fresh}
+use Rattle.delegate_ops.specs.InnerAgents.{fresh}
 use Rattle.core_machine.specs.Facts.{is_on_block}
 
 -- since call k of caller c took lock n, no other has made an entry on its lock block

@@ -16,7 +16,7 @@ use Rattle.delegate_ops.specs.declared.stage.Stage.{Stage}
 use Rattle.delegate_ops.specs.declared.stage.Stage.TheVariants as stage
 use Rattle.delegate_ops.specs.Deciding.{address_of, looked_answer, worn_answer}
 use Rattle.delegate_ops.specs.Changing.{from_of, to_of, with_generation}
-use Rattle.delegate_ops.specs.Agents.{task_of, next_of, took_of, IsReadable}
+use Rattle.delegate_ops.specs.InnerAgents.{task_of, next_of, took_of, IsReadable}
 use Rattle.core_machine.specs.declared.caller.Caller.{Caller}
 use Rattle.core_machine.specs.declared.caller.Caller.TheVariants as caller
 use Rattle.delegate_ops.specs.InnerEntries.{entries_at, made_at}

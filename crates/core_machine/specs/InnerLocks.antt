@@ -6,7 +6,7 @@ use Rattle.history.specs.declared.call.Task.{Task}
 use Rattle.delegate_ops.specs.declared.stage.Stage.{Stage}
 use Rattle.delegate_ops.specs.declared.stage.Stage.TheVariants as stage
 use Rattle.delegate_ops.specs.Deciding.{address_of}
-use Rattle.delegate_ops.specs.Agents.{task_of}
+use Rattle.delegate_ops.specs.InnerAgents.{task_of}
 use Rattle.core_machine.specs.declared.caller.Caller.{Caller}
 use Rattle.core_machine.specs.declared.caller.Caller.TheVariants as caller
 

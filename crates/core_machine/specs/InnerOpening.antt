@@ -6,7 +6,7 @@ use Rattle.gpt_descriptors.specs.Sizes.{space_granules}
 use Rattle.gpt_descriptors.specs.Canonical.{canonical_word}
 use Rattle.gpt_descriptors.specs.Level0.{l1_index}
 use Rattle.gpt_descriptors.specs.Places.{GeometryData, IsGeometry, Lock, Duty, Line, place_of, l0_words, l1_words, word_count, blocks_in_region}
-use Rattle.delegate_ops.specs.Agents.{IsAgent, fresh}
+use Rattle.delegate_ops.specs.InnerAgents.{IsAgent, fresh}
 use Rattle.core_machine.specs.declared.caller.Caller.{Caller}
 use Rattle.core_machine.specs.declared.caller.Caller.TheVariants as caller
 use Rattle.core_machine.specs.InnerTables.{table_word, MeansMap}

@@ -7,7 +7,7 @@ use Rattle.scenario_text.specs.declared.scenario.Script.TheVariants as script
 use Rattle.scenario_text.specs.declared.scenario.Slot.{Slot}
 use Rattle.scenario_text.specs.declared.scenario.Slot.TheVariants as slot
 use Rattle.history.specs.declared.outcome.Outcome.{Outcome}
-use Rattle.delegate_ops.specs.Agents.{fresh}
+use Rattle.delegate_ops.specs.InnerAgents.{fresh}
 use Rattle.core_machine.specs.declared.caller.Caller.{Caller}
 use Rattle.core_machine.specs.declared.caller.Caller.TheVariants as caller
 use Rattle.core_machine.specs.InnerCallers.{caller_answers}

@@ -13,7 +13,7 @@ use Rattle.delegate_ops.specs.declared.stage.Stage.{Stage}
 use Rattle.delegate_ops.specs.declared.stage.Stage.TheVariants as stage
 use Rattle.delegate_ops.specs.Deciding.{address_of, granule_place, generation_in, is_granules}
 use Rattle.delegate_ops.specs.Changing.{from_of, to_of}
-use Rattle.delegate_ops.specs.Agents.{task_of}
+use Rattle.delegate_ops.specs.InnerAgents.{task_of}
 use Rattle.core_machine.specs.declared.caller.Caller.{Caller}
 use Rattle.core_machine.specs.declared.caller.Caller.TheVariants as caller
 

@@ -10,7 +10,7 @@ use Rattle.history.specs.declared.call.Task.{Task}
 use Rattle.history.specs.declared.entry.Entry.{Entry}
 use Rattle.delegate_ops.specs.declared.stage.Stage.TheVariants as stage
 use Rattle.delegate_ops.specs.Deciding.{address_of}
-use Rattle.delegate_ops.specs.Agents.{AgentData, IsAgent, task_of, has_ended}
+use Rattle.delegate_ops.specs.InnerAgents.{AgentData, IsAgent, task_of, has_ended}
 use Rattle.core_machine.specs.declared.caller.Caller.{Caller}
 use Rattle.core_machine.specs.declared.caller.Caller.TheVariants as caller
 use Rattle.core_machine.specs.InnerCallers.{caller_next, caller_took}

@@ -2,7 +2,7 @@ ghost use Rattle.std.specs.Prelude.{◌≡◌, IfOk, map, if◌then◌else◌};
 ghost use Rattle.core_machine.specs.InnerPlay.{caller_of};
 ghost use Rattle.rmm_calls.specs.Codes.{is_admitted};
 ghost use Rattle.history.specs.declared.call.Task.TheVariants as the_task;
-ghost use Rattle.delegate_ops.specs.Agents.{task_of};
+ghost use Rattle.delegate_ops.specs.InnerAgents.{task_of};
 ghost use Rattle.core_machine.specs.Scenarios.{task_of_ask, tasks_of};
 
 use crate::caller::Caller;

@@ -4,7 +4,7 @@ ghost use Rattle.gpi_values.specs.declared.gpi.Gpi.{Gpi};
 ghost use Rattle.history.specs.declared.entry.Entry.{Entry};
 ghost use Rattle.core_machine.specs.InnerOpening.{IsFresh, AreStarting};
 ghost use Rattle.core_machine.specs.InnerMachine.{InvariantFor, after_turn, turn_entries, MachineData};
-ghost use Rattle.delegate_ops.specs.Agents.{fresh};
+ghost use Rattle.delegate_ops.specs.InnerAgents.{fresh};
 
 use crate::caller::Caller;
 use gpt_descriptors::Geometry;

@@ -19,7 +19,7 @@ use Rattle.delegate_ops.specs.declared.stage.Stage.{Stage}
 use Rattle.delegate_ops.specs.declared.stage.Stage.TheVariants as stage
 use Rattle.delegate_ops.specs.Deciding.{idle_answer, looked_answer, is_granules, worn_answer}
 use Rattle.delegate_ops.specs.Changing.{first_change}
-use Rattle.delegate_ops.specs.Agents.{AgentData, IsAgent, IsStage, IsChangeOf, HasRoom, raises_from, HasActs, is_look, task_of, answered_first, idle_answers, goes_to, waits_at, after_answer, looked_stage, read_all, read_stage, raised_stage, kept_read, kept_changed, kept_raised, stage_after, is_held, took_at, took_of, took_under_way}
+use Rattle.delegate_ops.specs.InnerAgents.{AgentData, IsAgent, IsStage, IsChangeOf, HasRoom, raises_from, HasActs, is_look, task_of, answered_first, idle_answers, goes_to, waits_at, after_answer, looked_stage, read_all, read_stage, raised_stage, kept_read, kept_changed, kept_raised, stage_after, is_held, took_at, took_of, took_under_way}
 
 -- ---- the answers of tasks without acts
 

@@ -27,7 +27,7 @@ use Rattle.delegate_ops.specs.declared.stage.Stage.{Stage}
 use Rattle.delegate_ops.specs.declared.stage.Stage.TheVariants as stage
 use Rattle.delegate_ops.specs.Deciding.{address_of, idle_answer, looked_answer, worn_answer}
 use Rattle.delegate_ops.specs.Script.{CallEvent, Step, plain, lock_bit_of, entries_of, IsWait, TakesLock, Looks, Reads, reads, Changes, transition_steps, Decides, Releases, IsUnderWay, Follows, HasStopped}
-use Rattle.delegate_ops.specs.Agents.{AgentData, IsAgent, HasActs, task_of, has_stopped, has_ended}
+use Rattle.delegate_ops.specs.InnerAgents.{AgentData, IsAgent, HasActs, task_of, has_stopped, has_ended}
 use Rattle.delegate_ops.specs.InnerScript.{IsReading, reads_before, IsChanging, IsPrefix, HasWalked}
 use Rattle.delegate_ops.proofs.ScriptLemmas.{one_made}
 use Rattle.delegate_ops.proofs.NextLemmas.{acts_place}

@@ -11,7 +11,7 @@ use Rattle.history.specs.declared.call.Task.{Task}
 use Rattle.delegate_ops.specs.declared.stage.Stage.{Stage}
 use Rattle.delegate_ops.specs.declared.stage.Stage.TheVariants as stage
 use Rattle.delegate_ops.specs.Deciding.{address_of, is_unusable, idle_answer}
-use Rattle.delegate_ops.specs.Agents.{AgentData, IsAgent, HasActs, task_of, act_at, next_of, has_stopped, has_ended}
+use Rattle.delegate_ops.specs.InnerAgents.{AgentData, IsAgent, HasActs, task_of, act_at, next_of, has_stopped, has_ended}
 use Rattle.delegate_ops.proofs.DecidingLemmas.{acts_usable}
 
 -- a usable address has a table

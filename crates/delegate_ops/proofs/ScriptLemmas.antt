@@ -27,7 +27,7 @@ use Rattle.delegate_ops.specs.declared.stage.Stage.{Stage}
 use Rattle.delegate_ops.specs.declared.stage.Stage.TheVariants as stage
 use Rattle.delegate_ops.specs.Deciding.{address_of, idle_answer, looked_answer, is_granules, generation_in, worn_answer}
 use Rattle.delegate_ops.specs.Changing.{first_change, changed_word}
-use Rattle.delegate_ops.specs.Agents.{AgentData, IsAgent, IsChangeOf, HasActs, is_look, task_of, answered_first, idle_answers, fresh, act_at, next_of, looked_stage, read_all, read_stage, raised_stage, kept_read, kept_changed, kept_raised, took_at, took_under_way, took_of}
+use Rattle.delegate_ops.specs.InnerAgents.{AgentData, IsAgent, IsChangeOf, HasActs, is_look, task_of, answered_first, idle_answers, fresh, act_at, next_of, looked_stage, read_all, read_stage, raised_stage, kept_read, kept_changed, kept_raised, took_at, took_under_way, took_of}
 use Rattle.history.specs.declared.entry.Entry.{Entry}
 use Rattle.delegate_ops.specs.Script.{CallEvent, Step, plain, lock_bit_of, IsWait, TakesLock, Looks, Reads, Changes, completion, change_entry, Decides, Releases, IsCall, AreCallEvents}
 use Rattle.delegate_ops.specs.InnerScript.{IsReading, reads_before, IsChanging, IsPrefix, HasWalked}

@@ -15,7 +15,7 @@ use Rattle.delegate_ops.specs.declared.stage.Stage.TheVariants as stage
 use Rattle.delegate_ops.specs.Deciding.{address_of, looked_answer}
 use Rattle.delegate_ops.specs.Changing.{raised_at, raised}
 use Rattle.delegate_ops.specs.Script.{CallEvent, Step, plain, plain_step, IsWait, TakesLock, Looks, Changes, Decides, Releases, AreCallEvents, completion, raises, change_and_raises, kept_after, transition_steps, last_generations}
-use Rattle.delegate_ops.specs.Agents.{AgentData, task_of}
+use Rattle.delegate_ops.specs.InnerAgents.{AgentData, task_of}
 
 -- the loads of generations before that of this size
 abbrev pub reads_before : GeometryData → ℕ → Size → Generations → List CallEvent

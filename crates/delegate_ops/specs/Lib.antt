@@ -2,6 +2,6 @@ pub mod Deciding
 pub mod Changing
 pub mod Script
 pub mod Quiet
-pub mod Agents
+pub mod InnerAgents
 pub mod InnerScript
 pub mod InnerEntries

@@ -9,7 +9,7 @@ ghost use Rattle.shared_words.specs.declared.act.Act.TheVariants as act;
 ghost use Rattle.delegate_ops.specs.Deciding.{address_of, idle_answer, looked_answer, worn_answer};
 ghost use Rattle.delegate_ops.specs.Changing.{changed_word};
 ghost use Rattle.delegate_ops.specs.Script.{lock_bit_of};
-ghost use Rattle.delegate_ops.specs.Agents.{stage_after, is_held, looked_stage, read_all, read_stage, raised_stage, is_look, task_of, fresh, idle_answers, act_at, has_ended, next_of, goes_to, after_answer, took_at, took_of, HasActs, IsReadable, IsStage, IsAgent};
+ghost use Rattle.delegate_ops.specs.InnerAgents.{stage_after, is_held, looked_stage, read_all, read_stage, raised_stage, is_look, task_of, fresh, idle_answers, act_at, has_ended, next_of, goes_to, after_answer, took_at, took_of, HasActs, IsReadable, IsStage, IsAgent};
 
 use crate::changing::{changed_word, first_change, generation_in};
 use crate::deciding::{address_of, idle_answer, is_granules, looked_answer, worn_answer};
@@ -34,7 +34,7 @@ pub struct Agent {
 
 impl Model for Agent {
     ghost use Rattle.std.specs.Prelude.{◌≤◌, length, vec_capacity};
-    ghost use Rattle.delegate_ops.specs.Agents.{AgentData, IsAgent};
+    ghost use Rattle.delegate_ops.specs.InnerAgents.{AgentData, IsAgent};
 
     ghost Value = { AgentData };
 

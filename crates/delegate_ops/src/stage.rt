@@ -1,5 +1,5 @@
 ghost use Rattle.std.specs.Prelude.{◌≡◌};
-ghost use Rattle.delegate_ops.specs.Agents.{kept_read};
+ghost use Rattle.delegate_ops.specs.InnerAgents.{kept_read};
 
 use crate::changing::with_generation;
 use gpt_descriptors::{Generations, Size};

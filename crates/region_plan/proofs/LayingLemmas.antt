@@ -24,7 +24,7 @@ use Rattle.region_plan.specs.declared.refusing.PlanError.TheVariants as refused
 use Rattle.region_plan.specs.Regions.{tables_needed, first_granule, granule_count, is_in, gpi_or_any, region_map}
 use Rattle.region_plan.specs.Refusals.{is_unaligned, is_outside, do_share, first_overlap, ArePlaced, refusal}
 use Rattle.region_plan.specs.Runs.{runs_map}
-use Rattle.region_plan.specs.RunSteps.{Covers, then_one}
+use Rattle.region_plan.specs.InnerRuns.{Covers, then_one}
 use Rattle.region_plan.proofs.PlanLemmas.{none_passes, cond_none}
 use Rattle.region_plan.proofs.RunLemmas.{covered_map}
 

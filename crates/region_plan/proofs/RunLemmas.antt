@@ -11,7 +11,7 @@ use Rattle.gpi_values.proofs.Numbers.{map_range_same}
 use Rattle.gpi_values.specs.declared.gpi.Gpi.TheVariants as gpi
 use Rattle.region_plan.specs.declared.run_map.Run.{Run}
 use Rattle.region_plan.specs.Runs.{gpi_after, runs_map, BeginAtZero, AreApart, AreRuns, AreMaximalRuns}
-use Rattle.region_plan.specs.RunSteps.{IsRunAt, Covers, then_one, last_gpi, begin_of, BeginsWith, Follows, Leads, Reaches}
+use Rattle.region_plan.specs.InnerRuns.{IsRunAt, Covers, then_one, last_gpi, begin_of, BeginsWith, Follows, Leads, Reaches}
 
 -- ---- the GPI of a granule
 

@@ -1,6 +1,6 @@
 pub mod Regions
 pub mod Refusals
 pub mod Runs
-pub mod RunSteps
+pub mod InnerRuns
 pub mod PlanData
 pub mod Outcome

@@ -4,7 +4,7 @@ ghost use Rattle.gpi_values.specs.declared.gpi.Gpi.{Gpi};
 ghost use Rattle.gpt_descriptors.specs.Sizes.{space_granules};
 ghost use Rattle.region_plan.specs.Regions.{region_map};
 ghost use Rattle.region_plan.specs.Runs.{AreApart, AreRuns, AreMaximalRuns, runs_map};
-ghost use Rattle.region_plan.specs.RunSteps.{IsRunAt, Covers, Follows, Leads, Reaches, then_one, last_gpi, begin_of, BeginsWith};
+ghost use Rattle.region_plan.specs.InnerRuns.{IsRunAt, Covers, Follows, Leads, Reaches, then_one, last_gpi, begin_of, BeginsWith};
 
 use crate::planning::Plan;
 use gpt_descriptors::Gpi;

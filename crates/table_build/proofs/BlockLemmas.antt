@@ -20,7 +20,7 @@ use Rattle.region_plan.specs.Regions.{region_map}
 use Rattle.gpi_values.proofs.ValueLemmas.{value_one}
 use Rattle.table_build.specs.declared.cursor.Cursor.{Cursor}
 use Rattle.table_build.specs.Built.{canonical_words, granules_words, table_of}
-use Rattle.table_build.specs.Reading.{IsRunFrom, IsAt}
+use Rattle.table_build.specs.InnerReading.{IsRunFrom, IsAt}
 use Rattle.table_build.proofs.ReadingLemmas.{reads_later}
 
 -- ---- a granules word, from its highest field down

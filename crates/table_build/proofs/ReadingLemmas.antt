@@ -13,11 +13,11 @@ use Rattle.region_plan.specs.declared.region.Region.{Region}
 use Rattle.region_plan.specs.declared.run_map.Run.{Run}
 use Rattle.region_plan.specs.Regions.{region_map}
 use Rattle.region_plan.specs.Runs.{gpi_after, runs_map, BeginAtZero, AreMaximalRuns}
-use Rattle.region_plan.specs.RunSteps.{begin_of}
+use Rattle.region_plan.specs.InnerRuns.{begin_of}
 use Rattle.region_plan.proofs.RunLemmas.{gpi_later}
 use Rattle.region_plan.proofs.LayingLemmas.{mapped_length}
 use Rattle.table_build.specs.declared.cursor.Cursor.{Cursor}
-use Rattle.table_build.specs.Reading.{HasBegun, NextIsAfter, Reads, IsRunFrom, IsAt}
+use Rattle.table_build.specs.InnerReading.{HasBegun, NextIsAfter, Reads, IsRunFrom, IsAt}
 
 -- the next run goes on with the map
 pub reads_next : (m : ℕ → Gpi) (g size : ℕ) (x y : Run) (ys : List Run) → y.first ≤ g → Reads m g size (x ∷ y ∷ ys) → Reads m g size (y ∷ ys)

@@ -1,4 +1,4 @@
 pub mod TableData
 pub mod Built
-pub mod Reading
+pub mod InnerReading
 pub mod Outcome

@@ -7,7 +7,7 @@ ghost use Rattle.gpt_descriptors.specs.Entries.{packed, l1_word};
 ghost use Rattle.gpt_descriptors.specs.Canonical.{is_one_block};
 ghost use Rattle.region_plan.specs.Regions.{region_map};
 ghost use Rattle.table_build.specs.Built.{canonical_words, granules_words, table_of};
-ghost use Rattle.table_build.specs.Reading.{IsAt};
+ghost use Rattle.table_build.specs.InnerReading.{IsAt};
 
 use crate::cursor::Cursor;
 use gpi_values::nibble;

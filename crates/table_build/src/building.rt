@@ -3,7 +3,7 @@ ghost use Rattle.gpt_descriptors.specs.Sizes.{table_words, table_bytes};
 ghost use Rattle.gpt_descriptors.specs.Entries.{l0_word};
 ghost use Rattle.region_plan.specs.Regions.{region_l0, region_entry, needs_table, tables_below};
 ghost use Rattle.table_build.specs.Built.{table_of, region_l1, tables_of, is_bad_base};
-ghost use Rattle.table_build.specs.Reading.{IsAt};
+ghost use Rattle.table_build.specs.InnerReading.{IsAt};
 ghost use Rattle.table_build.specs.Outcome.{IsBadBase};
 
 use crate::blocks::push_table;

@@ -1,7 +1,7 @@
 ghost use Rattle.std.specs.Prelude.{◌≡◌, ℕ, ◌<◌, length};
 ghost use Rattle.gpi_values.specs.declared.gpi.Gpi.{Gpi};
 ghost use Rattle.region_plan.specs.Runs.{AreMaximalRuns};
-ghost use Rattle.table_build.specs.Reading.{HasBegun, NextIsAfter, Reads, IsRunFrom};
+ghost use Rattle.table_build.specs.InnerReading.{HasBegun, NextIsAfter, Reads, IsRunFrom};
 
 use gpt_descriptors::Gpi;
 use region_plan::{Run, RunMap};

@@ -1,7 +1,7 @@
 use Rattle.std.proofs.Common.{◌≡◌, false, sym, subst}
 use Rattle.std.specs.List.{All}
 use Rattle.history.specs.declared.call.Task.{Task}
-use Rattle.delegate_ops.specs.Agents.{is_look}
+use Rattle.delegate_ops.specs.InnerAgents.{is_look}
 use Rattle.core_machine.proofs.CallLemmas.{asks_no_looks}
 use Rattle.core_machine.proofs.calling.caller_of.Goals as goal
 

@@ -1,6 +1,6 @@
 use Rattle.std.proofs.Common.{◌≡◌, ◌+◌, ◌++◌, length, drop}
 use Rattle.std.specs.Prelude.{vec_capacity}
-use Rattle.delegate_ops.specs.Agents.{idle_answers}
+use Rattle.delegate_ops.specs.InnerAgents.{idle_answers}
 use Rattle.delegate_ops.proofs.agent.answer_idle.Given as goal
 
 abbrev pub invariant-loop-task : goal.invariant-loop-task

@@ -6,7 +6,7 @@ use Rattle.gpt_descriptors.specs.Sizes.{space_granules}
 use Rattle.region_plan.specs.declared.region.Kind.TheVariants as kind
 use Rattle.region_plan.specs.declared.region.Region.{Region}
 use Rattle.region_plan.specs.Regions.{first_granule, granule_count, region_map}
-use Rattle.region_plan.specs.RunSteps.{then_one}
+use Rattle.region_plan.specs.InnerRuns.{then_one}
 use Rattle.region_plan.proofs.LayingLemmas.{laid_more, map_more, covers_alike, all_inside, laid_apart, laid_is_map}
 use Rattle.region_plan.proofs.RunLemmas.{covered_runs}
 use Rattle.region_plan.proofs.laying.lay.Goals as goal

@@ -1,6 +1,6 @@
 use Rattle.std.proofs.Common.{◌≤◌, take}
 use Rattle.region_plan.specs.Regions.{region_map}
-use Rattle.region_plan.specs.RunSteps.{Covers}
+use Rattle.region_plan.specs.InnerRuns.{Covers}
 use Rattle.region_plan.proofs.LayingLemmas.{Laid}
 use Rattle.region_plan.proofs.laying.lay.Given as goal
 

@@ -1,5 +1,5 @@
 use Rattle.std.proofs.Common.{◌≡◌, ◌<◌, Some, None, arith}
-use Rattle.region_plan.specs.RunSteps.{last_gpi}
+use Rattle.region_plan.specs.InnerRuns.{last_gpi}
 use Rattle.region_plan.proofs.RunLemmas.{covers_more, covers_new, fails}
 use Rattle.region_plan.proofs.run_map.add_granules.Goals as goal
 

@@ -1,6 +1,6 @@
 use Rattle.std.proofs.Common.{◌≡◌, ◌≤◌, length, drop, arith}
 use Rattle.std.proofs.lemmas.List.{take_rest}
-use Rattle.region_plan.specs.RunSteps.{begin_of}
+use Rattle.region_plan.specs.InnerRuns.{begin_of}
 use Rattle.region_plan.proofs.RunLemmas.{follows_inserted, follows_removed}
 use Rattle.region_plan.proofs.run_map.part_after.Goals as goal
 

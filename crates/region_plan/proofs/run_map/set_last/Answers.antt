@@ -1,7 +1,7 @@
 use Rattle.std.proofs.Common.{◌≡◌, ◌<◌, ◌+◌, ◌++◌, ◌∷◌, [], Some, None, List, ℕ, suc, length, get_or, take, drop, sym, ap, ◌∙◌, append_assoc, add-one, arith}
 use Rattle.std.proofs.lemmas.List.{set_split, get_or_default}
 use Rattle.region_plan.specs.declared.run_map.Run.{Run}
-use Rattle.region_plan.specs.RunSteps.{last_gpi}
+use Rattle.region_plan.specs.InnerRuns.{last_gpi}
 use Rattle.region_plan.proofs.RunLemmas.{set_parted, set_joined, set_new, reached_first, fails}
 use Rattle.region_plan.proofs.run_map.set_last.Goals as goal
 

@@ -1,7 +1,7 @@
 use Rattle.std.proofs.Common.{◌+◌, ◌*◌, sym, arith}
 use Rattle.gpt_descriptors.specs.declared.size.Size.TheVariants as size
 use Rattle.gpt_descriptors.specs.Sizes.{words_of}
-use Rattle.table_build.specs.Reading.{IsAt}
+use Rattle.table_build.specs.InnerReading.{IsAt}
 use Rattle.table_build.proofs.BlockLemmas.{five_twelve_block, at_later, ok_known}
 use Rattle.table_build.proofs.blocks.push_five_twelve.Goals as goal
 

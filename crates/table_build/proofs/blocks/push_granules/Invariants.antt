@@ -1,6 +1,6 @@
 use Rattle.std.proofs.Common.{◌≡◌, ◌≤◌, ◌++◌, ◌*◌, ◌-◌}
 use Rattle.table_build.specs.Built.{granules_words}
-use Rattle.table_build.specs.Reading.{IsAt}
+use Rattle.table_build.specs.InnerReading.{IsAt}
 use Rattle.table_build.proofs.blocks.push_granules.Given as goal
 
 abbrev pub invariant-loop-w : goal.invariant-loop-w

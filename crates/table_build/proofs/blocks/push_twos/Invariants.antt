@@ -2,7 +2,7 @@ use Rattle.std.proofs.Common.{◌≡◌, ◌++◌, ◌+◌, ◌*◌}
 use Rattle.gpt_descriptors.specs.declared.size.Size.TheVariants as size
 use Rattle.gpt_descriptors.specs.Sizes.{words_of}
 use Rattle.table_build.specs.Built.{canonical_words}
-use Rattle.table_build.specs.Reading.{IsAt}
+use Rattle.table_build.specs.InnerReading.{IsAt}
 use Rattle.table_build.proofs.blocks.push_twos.Given as goal
 
 abbrev pub invariant-loop-k : goal.invariant-loop-k

@@ -3,7 +3,7 @@ use Rattle.std.specs.List.{flat_map}
 use Rattle.gpt_descriptors.specs.Sizes.{table_words}
 use Rattle.region_plan.specs.Regions.{tabled_below}
 use Rattle.table_build.specs.Built.{table_of}
-use Rattle.table_build.specs.Reading.{IsAt}
+use Rattle.table_build.specs.InnerReading.{IsAt}
 use Rattle.table_build.proofs.building.level1.Given as goal
 
 abbrev pub invariant-loop-q : goal.invariant-loop-q

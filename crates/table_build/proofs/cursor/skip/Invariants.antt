@@ -1,6 +1,6 @@
 use Rattle.std.proofs.Common.{◌<◌, ◌-◌, ℕ, length, drop}
 use Rattle.gpi_values.specs.declared.gpi.Gpi.{Gpi}
-use Rattle.table_build.specs.Reading.{HasBegun, Reads}
+use Rattle.table_build.specs.InnerReading.{HasBegun, Reads}
 use Rattle.table_build.proofs.cursor.skip.Given as goal
 
 abbrev pub invariant-loop-at : goal.invariant-loop-at

@@ -1,5 +1,5 @@
 use Rattle.std.proofs.Common.{subst}
-use Rattle.delegate_ops.specs.Agents.{IsAgent}
+use Rattle.delegate_ops.specs.InnerAgents.{IsAgent}
 use Rattle.delegate_ops.proofs.AgentLemmas.{next_fits}
 use Rattle.delegate_ops.proofs.agent.Agent.step.Goals as goal
 

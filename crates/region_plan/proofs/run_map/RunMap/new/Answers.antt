@@ -1,6 +1,6 @@
 use Rattle.std.proofs.Common.{◌∙◌}
 use Rattle.gpi_values.specs.declared.gpi.Gpi.TheVariants as gpi
-use Rattle.region_plan.specs.RunSteps.{then_one}
+use Rattle.region_plan.specs.InnerRuns.{then_one}
 use Rattle.region_plan.proofs.RunLemmas.{covers_none, covered_runs, covered_map, any_everywhere}
 use Rattle.region_plan.proofs.run_map.RunMap.new.Goals as goal
 
