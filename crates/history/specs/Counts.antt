@@ -1,11 +1,12 @@
 -- The generations of a history: how often the granules of a region were changed.
-use Rattle.std.specs.Prelude.{◌≡◌, ℕ, ◌+◌, ◌-◌, ◌*◌, ◌/◌, Bool, true, false, ◌&&◌, List, [], ◌∷◌, ◌++◌, count_by, ◌==◌, nat_lt, Some}
+use Rattle.std.specs.Prelude.{◌≡◌, ℕ, ◌+◌, ◌*◌, ◌/◌, Bool, true, false, ◌&&◌, List, [], ◌∷◌, ◌++◌, count_by, ◌==◌, Some}
 use Rattle.std.specs.List.{find}
 use Rattle.gpi_values.specs.declared.gpi.Gpi.{Gpi}
 use Rattle.gpt_descriptors.specs.declared.size.Size.{Size}
 use Rattle.gpt_descriptors.specs.declared.size.Size.TheVariants as size
 use Rattle.gpt_descriptors.specs.declared.size.Generations.{Generations}
-use Rattle.gpt_descriptors.specs.Sizes.{generation_last, size_bytes}
+use Rattle.gpt_descriptors.specs.Sizes.{size_bytes}
+pub use Rattle.gpt_descriptors.specs.Sizes.{is_worn}
 use Rattle.history.specs.declared.entry.Entry.{Entry}
 use Rattle.history.specs.declared.entry.Entry.TheVariants as entry
 use Rattle.history.specs.Entries.{granule_in, caller_in, call_in}
@@ -45,10 +46,6 @@ pub record AreDoneCounts (first bytes c k granule : ℕ) (given : Generations) (
   pub parts : h ≡ before ++ entry.Settled c k granule ∷ after
   pub last : count_by (λ e. is_completion e && is_by c k e) after ≡ 0
   pub counts : given ≡ counts_around first bytes granule before
-
--- too near to the last generation for a transition, which raises each up to twice
-abbrev pub is_worn : ℕ → Bool
-is_worn value = nat_lt (generation_last - 2) value
 
 -- A transition that is refused for a worn generation is answered the first such size, and its count before the refusal.
 pub record IsWornCount (first bytes c k granule : ℕ) (z : Size) (value : ℕ) (h : List Entry) : Type 0 where

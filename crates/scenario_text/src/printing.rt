@@ -1,37 +1,17 @@
 ghost use Rattle.std.specs.Prelude.{◌≡◌, ◌∷◌, [], map, IfOk};
 ghost use Rattle.std.specs.List.{flat_map};
 ghost use Rattle.line_text.specs.Lines.{line};
-ghost use Rattle.gpi_values.specs.Names.{source_name_of, world_name_of};
 ghost use Rattle.scenario_text.specs.Spelling.{WellFormed, text_of, line_text, head_lines, script_lines, address, max_count, kind_name, OneRegion, OneAsk, OneLook, OneSlot};
 ghost use Rattle.scenario_text.specs.InnerPrinting.{Adds, space_lines, table_lines};
 
 use crate::scenario::{Ask, Look, Scenario, Script, Slot};
-use gpi_values::{Source, World, gpi_name, space_name};
+use gpi_values::{gpi_name, source_name, space_name, world_name};
 use gpt_descriptors::{MaxBlock, Setup};
 use region_plan::{Kind, Region};
 use std::alloc::{AllocError, Global};
 
 /// The version of the format.
 const VERSION: u64 = 1;
-
-fn source_name(source: Source) -> &'static str
-    ensures { result.now ≡ source_name_of source }
-{
-    match source {
-        Source::Realm => "realm",
-        Source::Secure => "secure",
-    }
-}
-
-fn world_name(world: World) -> &'static str
-    ensures { result.now ≡ world_name_of world }
-{
-    match world {
-        World::Realm => "realm",
-        World::Secure => "secure",
-        World::NonSecure => "nonsecure",
-    }
-}
 
 fn name_of_kind(kind: Kind) -> &'static str
     ensures { result.now ≡ kind_name kind }
