@@ -44,7 +44,7 @@ beside_cases j k =
 pub row_near : (x k : ℕ) → k < 15 → (x / 16 * 16 + beside (x % 16) k) / 16 ≡ x / 16
 row_near x k low = elim (beside_cases (x % 16) k) [ inl (below, is) ↦ omega (arith, low, below, is) | inr (above, is) ↦ omega (arith, low, above, is) ]
 
-row_other : (x k : ℕ) → k < 15 → x / 16 * 16 + beside (x % 16) k ≢ x
+pub row_other : (x k : ℕ) → k < 15 → x / 16 * 16 + beside (x % 16) k ≢ x
 row_other x k low e = elim (beside_cases (x % 16) k) [ inl (below, is) ↦ omega (arith, low, below, is, e) | inr (above, is) ↦ omega (arith, low, above, is, e) ]
 
 row_hits : (x q : ℕ) → q / 16 ≡ x / 16 → q ≢ x → (k : ℕ) × (k < 15) × (x / 16 * 16 + beside (x % 16) k ≡ q)
@@ -63,7 +63,7 @@ sixteenth x n = ap (λ (k : ℕ). x / k) (mul_comm 16 n) ∙ sym (div-div-eq-div
 
 -- ---- the words of a test
 
-two_loads : (s : SetupData) (table : ℕ → ℕ) (own : ℕ) (v : Gpi) → ((k : ℕ) → k < words_of s size.Two → table (load_at (words_of s size.Two) own size.Two k) ≡ granules_of v) → PassesTwo s table own v
+pub two_loads : (s : SetupData) (table : ℕ → ℕ) (own : ℕ) (v : Gpi) → ((k : ℕ) → k < words_of s size.Two → table (load_at (words_of s size.Two) own size.Two k) ≡ granules_of v) → PassesTwo s table own v
 two_loads s table own v each = λ w near.
     let n : ℕ = words_of s size.Two in
     let low : own / n * n ≤ w = start_low n (own / n) w near in
@@ -84,7 +84,7 @@ two_row_is s own k = ap (λ (n : ℕ). n * 16 + beside (own / words_of s size.Tw
 pub thirty_two_row : (s : SetupData) (own : ℕ) → own / words_of s size.Two / 16 ≡ own / words_of s size.ThirtyTwo
 thirty_two_row s own = sym (sixteenth own (words_of s size.Two)) ∙ ap (λ (n : ℕ). own / n) (sym (thirty_two_is s))
 
-thirty_two_loads : (s : SetupData) (table : ℕ → ℕ) (own : ℕ) (v : Gpi)
+pub thirty_two_loads : (s : SetupData) (table : ℕ → ℕ) (own : ℕ) (v : Gpi)
     → ((k : ℕ) → k < 15 → table (load_at (words_of s size.Two) own size.ThirtyTwo k) ≡ l1_word (l1.Contig size.Two v)) → PassesThirtyTwo s table own v
 thirty_two_loads s table own v each = λ q near other.
     let x : ℕ = own / words_of s size.Two in
@@ -107,7 +107,7 @@ five_twelve_row s own = sym (sixteenth own (words_of s size.ThirtyTwo)) ∙ ap (
 pub big_load : (s : SetupData) (own k : ℕ) → load_at (words_of s size.Two) own size.FiveTwelve k ≡ big_row s own k * words_of s size.ThirtyTwo
 big_load s own k = ap (λ (n : ℕ). big_row s own k * n) (sym (thirty_two_is s))
 
-five_twelve_loads : (s : SetupData) (table : ℕ → ℕ) (own : ℕ) (v : Gpi)
+pub five_twelve_loads : (s : SetupData) (table : ℕ → ℕ) (own : ℕ) (v : Gpi)
     → ((k : ℕ) → k < 15 → table (load_at (words_of s size.Two) own size.FiveTwelve k) ≡ l1_word (l1.Contig size.ThirtyTwo v)) → PassesFiveTwelve s table own v
 five_twelve_loads s table own v each = λ r near other.
     let x : ℕ = own / words_of s size.ThirtyTwo in

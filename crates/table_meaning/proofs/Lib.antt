@@ -3,6 +3,7 @@ pub mod ChangeLemmas
 pub mod SplitLemmas
 pub mod TestLemmas
 pub mod FusingLemmas
+pub mod FoundLemmas
 pub mod PlaceLemmas
 pub mod EquationLemmas
 pub mod StepLemmas
