@@ -34,6 +34,13 @@ impl Random {
         }
     }
 
+    fn shuffle(&mut self, regions: &mut [Region]) {
+        for i in 0..regions.len() {
+            let j = self.below(regions.len() as u64) as usize;
+            regions.swap(i, j);
+        }
+    }
+
     /// How many granules a region has, of those that there is room for.
     fn count(&mut self, room: u64) -> u64 {
         match self.below(4) {
@@ -51,25 +58,25 @@ fn random_regions(alloc: Global, random: &mut Random, parts: u64) -> Result<Vec<
     requires low { 0 < parts }
     requires high { parts ≤ 64 }
 {
-    let part = 0x10_0000 / parts;
+    let part = (0x10_0000 / parts).max(1);
     let mut regions = Vec::new(alloc);
     for i in 0..parts {
         let skipped = match random.below(2) {
             0 => 0,
             _ => random.below(part),
         };
-        let granules = random.count(part - skipped);
+        let granules = random.count(part.saturating_sub(skipped));
         regions.push(Region {
-            base: (i * part + skipped).wrapping_mul(0x1000),
+            base: i
+                .wrapping_mul(part)
+                .wrapping_add(skipped)
+                .wrapping_mul(0x1000),
             size: granules.wrapping_mul(0x1000),
             kind: Kind::Granule,
             gpi: random.gpi(),
         })?;
     }
-    for i in 0..regions.len() {
-        let j = random.below(regions.len() as u64) as usize;
-        regions.swap(i, j);
-    }
+    random.shuffle(&mut regions);
     Ok(regions)
 }
 
