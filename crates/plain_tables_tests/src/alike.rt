@@ -118,6 +118,37 @@ fn maps_of_random_regions_are_those_of_each_granule(rt: HostRuntime) -> Result<(
     Ok(())
 }
 
+/// The words of a table against those that are asked one by one, from word `first` on.
+fn words_are_alike(
+    rt: &(impl Abort + Print),
+    words: &[u64],
+    setup: &Setup,
+    regions: &[Region],
+    first: u64,
+)
+    requires { first < 4194304 }
+{
+    let mut at = 0usize;
+    for w in first..first + 16384 {
+        let want = plain_word(setup, regions, w);
+        assert_eq!(rt; words.get(at).copied(), Some(want), "at {w}");
+        at = at.wrapping_add(1);
+    }
+}
+
+/// The tables of these regions, one after another.
+fn tables_are_alike(rt: &(impl Abort + Print), words: &[u64], plan: &Plan, regions: &[Region]) {
+    let mut rest = words;
+    for q in 0..4 {
+        if plan.needs_table(q) {
+            let (table, later) = rest.split_at(rest.len().min(16384));
+            words_are_alike(rt, table, plan.setup(), regions, 16384 * q);
+            rest = later;
+        }
+    }
+    assert!(rt; rest.is_empty());
+}
+
 #[test]
 fn tables_of_random_regions_have_the_words_that_are_asked_one_by_one(
     rt: HostRuntime,
@@ -132,23 +163,9 @@ fn tables_of_random_regions_have_the_words_that_are_asked_one_by_one(
     for parts in [1, 3, 8, 33] {
         let regions = random_regions(rt.alloc(), &mut random, parts)?;
         for max in sizes {
-            let setup = setup_with(&rt, max);
-            let plan = Plan::plan(rt.alloc(), &regions, &setup)?;
+            let plan = Plan::plan(rt.alloc(), &regions, &setup_with(&rt, max))?;
             let tables = build(rt.alloc(), &plan, plan.setup().base())?;
-            let mut words = tables.l1().iter();
-            for q in 0..4 {
-                if !plan.needs_table(q) {
-                    continue;
-                }
-                for w in 16384 * q..16384 * (q + 1) {
-                    assert_eq!(rt;
-                        words.next().copied(),
-                        Some(plain_word(&setup, &regions, w)),
-                        "{max:?} at {w}"
-                    );
-                }
-            }
-            assert_eq!(rt; words.next().copied(), None);
+            tables_are_alike(&rt, tables.l1(), &plan, &regions);
         }
     }
     Ok(())
