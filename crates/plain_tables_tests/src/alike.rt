@@ -34,6 +34,13 @@ impl Random {
         }
     }
 
+    fn shuffle(&mut self, regions: &mut [Region]) {
+        for i in 0..regions.len() {
+            let j = self.below(regions.len() as u64) as usize;
+            regions.swap(i, j);
+        }
+    }
+
     /// How many granules a region has, of those that there is room for.
     fn count(&mut self, room: u64) -> u64 {
         match self.below(4) {
@@ -51,25 +58,25 @@ fn random_regions(alloc: Global, random: &mut Random, parts: u64) -> Result<Vec<
     requires low { 0 < parts }
     requires high { parts ≤ 64 }
 {
-    let part = 0x10_0000 / parts;
+    let part = (0x10_0000 / parts).max(1);
     let mut regions = Vec::new(alloc);
     for i in 0..parts {
         let skipped = match random.below(2) {
             0 => 0,
             _ => random.below(part),
         };
-        let granules = random.count(part - skipped);
+        let granules = random.count(part.saturating_sub(skipped));
         regions.push(Region {
-            base: (i * part + skipped).wrapping_mul(0x1000),
+            base: i
+                .wrapping_mul(part)
+                .wrapping_add(skipped)
+                .wrapping_mul(0x1000),
             size: granules.wrapping_mul(0x1000),
             kind: Kind::Granule,
             gpi: random.gpi(),
         })?;
     }
-    for i in 0..regions.len() {
-        let j = random.below(regions.len() as u64) as usize;
-        regions.swap(i, j);
-    }
+    random.shuffle(&mut regions);
     Ok(regions)
 }
 
@@ -111,6 +118,37 @@ fn maps_of_random_regions_are_those_of_each_granule(rt: HostRuntime) -> Result<(
     Ok(())
 }
 
+/// The words of a table against those that are asked one by one, from word `first` on.
+fn words_are_alike(
+    rt: &(impl Abort + Print),
+    words: &[u64],
+    setup: &Setup,
+    regions: &[Region],
+    first: u64,
+)
+    requires { first < 4194304 }
+{
+    let mut at = 0usize;
+    for w in first..first + 16384 {
+        let want = plain_word(setup, regions, w);
+        assert_eq!(rt; words.get(at).copied(), Some(want), "at {w}");
+        at = at.wrapping_add(1);
+    }
+}
+
+/// The tables of these regions, one after another.
+fn tables_are_alike(rt: &(impl Abort + Print), words: &[u64], plan: &Plan, regions: &[Region]) {
+    let mut rest = words;
+    for q in 0..4 {
+        if plan.needs_table(q) {
+            let (table, later) = rest.split_at(rest.len().min(16384));
+            words_are_alike(rt, table, plan.setup(), regions, 16384 * q);
+            rest = later;
+        }
+    }
+    assert!(rt; rest.is_empty());
+}
+
 #[test]
 fn tables_of_random_regions_have_the_words_that_are_asked_one_by_one(
     rt: HostRuntime,
@@ -125,23 +163,9 @@ fn tables_of_random_regions_have_the_words_that_are_asked_one_by_one(
     for parts in [1, 3, 8, 33] {
         let regions = random_regions(rt.alloc(), &mut random, parts)?;
         for max in sizes {
-            let setup = setup_with(&rt, max);
-            let plan = Plan::plan(rt.alloc(), &regions, &setup)?;
+            let plan = Plan::plan(rt.alloc(), &regions, &setup_with(&rt, max))?;
             let tables = build(rt.alloc(), &plan, plan.setup().base())?;
-            let mut words = tables.l1().iter();
-            for q in 0..4 {
-                if !plan.needs_table(q) {
-                    continue;
-                }
-                for w in 16384 * q..16384 * (q + 1) {
-                    assert_eq!(rt;
-                        words.next().copied(),
-                        Some(plain_word(&setup, &regions, w)),
-                        "{max:?} at {w}"
-                    );
-                }
-            }
-            assert_eq!(rt; words.next().copied(), None);
+            tables_are_alike(&rt, tables.l1(), &plan, &regions);
         }
     }
     Ok(())

