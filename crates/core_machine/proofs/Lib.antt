@@ -26,3 +26,4 @@ pub mod TraceLemmas
 pub mod AnswerLemmas
 pub mod PartLemmas
 pub mod RunLemmas
+pub mod StillLemmas
