@@ -20,8 +20,9 @@ fn admitted(world: World, task: Task) -> Task
     if admits(world) { task } else { Task::Unknown }
 }
 
-/// The task of a call.
-fn task_of(ask: Ask) -> Task
+/// The task of a call. A call through the monitor is the Realm's where its world is admitted, and `Unknown`
+/// where it isn't.
+pub fn task_of(ask: Ask) -> Task
     ensures { result ≡ task_of_ask ask }
 {
     match ask {

@@ -10,7 +10,7 @@ mod played;
 mod playing;
 
 pub use caller::Caller;
-pub use calling::callers;
+pub use calling::{callers, task_of};
 pub use law::{callers_keep_to_their_words, one_act_keeps, waits_have_causes};
 pub use machine::Machine;
-pub use played::play;
+pub use played::{count_cpus, geometry_of, play};

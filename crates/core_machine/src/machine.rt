@@ -1,4 +1,4 @@
-ghost use Rattle.std.specs.Prelude.{◌≡◌, ◌<◌, ℕ, List, [], ◌++◌, length};
+ghost use Rattle.std.specs.Prelude.{◌≡◌, ◌<◌, ℕ, List, [], ◌++◌, length, false};
 ghost use Rattle.std.specs.List.{All};
 ghost use Rattle.gpi_values.specs.declared.gpi.Gpi.{Gpi};
 ghost use Rattle.history.specs.declared.entry.Entry.{Entry};
@@ -44,6 +44,27 @@ impl<W: Words> Machine<W> {
         }
     }
 
+    /// A turn of a caller, and whether it may have changed anything: it has not where the caller has no
+    /// act, or had waited and waits again.
+    pub fn step(&mut self, caller: usize) -> bool
+        requires caller { caller < length self.old.callers }
+        requires invariant { (first : List Gpi) × (h : List Entry) × InvariantFor first self.old h }
+        ensures turn { self.new ≡ after_turn self.old caller }
+        ensures invariant { (first : List Gpi) (h : List Entry) → InvariantFor first self.old h → InvariantFor first self.new (h ++ turn_entries self.old caller) }
+        ensures still { result ≡ false → self.new ≡ self.old }
+    {
+        let acting = &mut self.callers[caller];
+        if let Some(act) = acting.next() {
+            let waited = acting.waits();
+            let old = self.words.apply(act);
+            acting.took(old);
+            let again = acting.waits();
+            !(waited & again)
+        } else {
+            false
+        }
+    }
+
     /// One act of a caller, nothing where it has none. Where the machine had the invariant with a history, it
     /// has it with that history and the entries of that act.
     pub fn turn(&mut self, caller: usize)
@@ -52,11 +73,7 @@ impl<W: Words> Machine<W> {
         ensures turn { self.new ≡ after_turn self.old caller }
         ensures invariant { (first : List Gpi) (h : List Entry) → InvariantFor first self.old h → InvariantFor first self.new (h ++ turn_entries self.old caller) }
     {
-        let acting = &mut self.callers[caller];
-        if let Some(act) = acting.next() {
-            let old = self.words.apply(act);
-            acting.took(old);
-        }
+        self.step(caller);
     }
 
     /// The geometry of the shared words.

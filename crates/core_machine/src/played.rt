@@ -21,7 +21,7 @@ use std::alloc::{AllocError, Global};
 use table_build::Tables;
 
 /// The number of processors of a scenario.
-fn count_cpus(scripts: &[Script]) -> usize
+pub fn count_cpus(scripts: &[Script]) -> usize
     ensures { result ≡ count_by is_cpu scripts.now }
 {
     scripts
@@ -41,8 +41,8 @@ fn answers_of(alloc: Global, callers: &[Caller]) -> Result<Vec<Listed<Answer>>, 
     Ok(answers)
 }
 
-/// The geometry of a scenario whose tables were built.
-fn geometry_of(scenario: &Scenario, tables: &Tables) -> Geometry
+/// The geometry of a scenario whose tables were built: where each of its shared words is.
+pub fn geometry_of(scenario: &Scenario, tables: &Tables) -> Geometry
     requires wellformed { WellFormed scenario.now }
     requires built { tables.now ≡ tables_of scenario.now.setup scenario.now.regions }
     ensures geometry { result ≡ geometry_of scenario.now }

@@ -1,4 +1,4 @@
-ghost use Rattle.std.specs.Prelude.{◌≡◌, ◌<◌, ℕ, List, length, replicate};
+ghost use Rattle.std.specs.Prelude.{◌≡◌, ◌<◌, ℕ, List, length, replicate, false};
 ghost use Rattle.std.specs.List.{All, flat_map, range_with_len};
 ghost use Rattle.gpi_values.specs.declared.gpi.Gpi.{Gpi};
 ghost use Rattle.history.specs.declared.entry.Entry.{Entry};
@@ -11,47 +11,59 @@ use scenario_text::Slot;
 use shared_words::Words;
 
 impl<W: Words> Machine<W> {
-    /// So many turns of one caller.
-    fn turns(&mut self, caller: usize, count: u32)
+    /// This number of turns of one caller, and whether they may have changed anything. It stops at a turn
+    /// that changes nothing, since no later one does.
+    fn turns(&mut self, caller: usize, count: u32) -> bool
         requires caller { caller < length self.old.callers }
         requires invariant { (first : List Gpi) × (h : List Entry) × InvariantFor first self.old h }
-        ensures { self.new ≡ after_turns self.old (replicate count caller) }
+        ensures turns { self.new ≡ after_turns self.old (replicate count caller) }
+        ensures still { result ≡ false → self.new ≡ self.old }
     {
+        let mut changed = false;
         for _ in 0..count {
-            self.turn(caller);
+            if !self.step(caller) {
+                return changed;
+            }
+            changed = true;
         }
+        changed
     }
 
-    /// So many turns of each caller in order.
-    fn round(&mut self, count: u32)
+    /// This number of turns of each caller in order, and whether they may have changed anything.
+    fn round(&mut self, count: u32) -> bool
         requires { (first : List Gpi) × (h : List Entry) × InvariantFor first self.old h }
-        ensures { self.new ≡ after_turns self.old (round_turns (length self.old.callers) count) }
+        ensures turns { self.new ≡ after_turns self.old (round_turns (length self.old.callers) count) }
+        ensures still { result ≡ false → self.new ≡ self.old }
     {
+        let mut changed = false;
         for caller in 0..self.callers().len() {
-            self.turns(caller, count);
+            changed |= self.turns(caller, count);
         }
+        changed
     }
 
-    /// So many rounds.
+    /// This number of rounds. It stops at a round that changes nothing, since no later one does.
     fn rounds(&mut self, count: u32, times: u32)
         requires { (first : List Gpi) × (h : List Entry) × InvariantFor first self.old h }
         ensures { self.new ≡ after_turns self.old (flat_map (λ k. round_turns (length self.old.callers) count) (range_with_len 0 times)) }
     {
         for _ in 0..times {
-            self.round(count);
+            if !self.round(count) {
+                return;
+            }
         }
     }
 
-    /// The turns of a line of the schedule, which names one of the callers. Rounds without callers take no
-    /// time, however many are asked for.
+    /// The turns of a line of the schedule, which names one of the callers.
     fn slot(&mut self, slot: Slot)
         requires names { NamesCaller (length self.old.callers) slot }
         requires invariant { (first : List Gpi) × (h : List Entry) × InvariantFor first self.old h }
         ensures { self.new ≡ after_turns self.old (slot_turns (length self.old.callers) slot) }
     {
         match slot {
-            Slot::Turn(caller, count) => self.turns(caller as usize, count),
-            Slot::Round(..) if self.callers().is_empty() => {}
+            Slot::Turn(caller, count) => {
+                self.turns(caller as usize, count);
+            }
             Slot::Round(count, times) => self.rounds(count, times),
         }
     }

@@ -1,0 +1,142 @@
+-- Turns that change nothing: those of a caller without a next act, and a wait after a wait.
+use Rattle.std.proofs.Common.{◌≡◌, ◌≢◌, ℕ, zero, suc, ◌+◌, ◌*◌, ◌/◌, ◌%◌, ◌^◌, ◌<◌, ◌≤◌, ◌-◌, ◌++◌, ◌∷◌, [], List, Bool, true, false, not, eqb, Option, Some, None, length, get_or, set, replicate, refl, sym, ap, ◌∙◌, subst, arith, inl, inr}
+use Rattle.std.specs.Prelude.{slice_get, slice_index}
+use Rattle.std.specs.Int.{bit_at}
+use Rattle.std.specs.Int.Bits.{bit_and, bit_or, or_add_and}
+use Rattle.std.specs.List.{flat_map, range_with_len}
+use Rattle.std.proofs.Math.Nat.{zero-mul}
+use Rattle.std.proofs.lemmas.Bool.{cases_Bool, eq-eqb}
+use Rattle.std.proofs.lemmas.Option.{slice_get-get_or}
+use Rattle.std.proofs.lemmas.List.{set-get_or}
+use Rattle.std.proofs.lemmas.Nat.Bits.{and_pow, bit_at-lt}
+use Rattle.gpt_descriptors.specs.Places.{GeometryData}
+use Rattle.shared_words.specs.declared.act.Act.{Act}
+use Rattle.shared_words.specs.Acts.{answer_of, after_act}
+use Rattle.bit_locks.specs.Locks.{bit_with, take_act}
+use Rattle.history.specs.declared.call.Task.{Task}
+use Rattle.history.specs.declared.call.Answer.{Answer}
+use Rattle.delegate_ops.specs.declared.stage.Stage.{Stage}
+use Rattle.delegate_ops.specs.declared.stage.Stage.TheVariants as stage
+use Rattle.delegate_ops.specs.Script.{lock_bit_of}
+use Rattle.delegate_ops.specs.InnerAgents.{AgentData, task_of, act_at, next_of, is_held, waits_at, took_at, took_under_way}
+use Rattle.core_machine.specs.declared.caller.Caller.{Caller}
+use Rattle.core_machine.specs.declared.caller.Caller.TheVariants as caller
+use Rattle.core_machine.specs.InnerCallers.{caller_next, caller_took, caller_waits}
+use Rattle.core_machine.specs.InnerMachine.{MachineData, after_turn, after_turns}
+use Rattle.core_machine.proofs.MachineLemmas.{after_turns-append, replicate_more, range_front}
+
+-- ---- a held lock
+
+-- to set a bit that is set changes nothing
+set_again : (word k : ℕ) → bit_and word (2 ^ k) ≢ 0 → bit_or word (2 ^ k) ≡ word
+set_again word k held =
+    let and = and_pow word k in
+    let low = bit_at-lt word k in
+    let clear : bit_at word k ≢ 0 = λ none. held (and ∙ ap (λ (b : ℕ). b * 2 ^ k) none ∙ zero-mul (2 ^ k)) in
+    let one : bit_at word k ≡ 1 = omega (arith, low, clear) in
+    let mask : bit_and word (2 ^ k) ≡ 1 * 2 ^ k = and ∙ ap (λ (b : ℕ). b * 2 ^ k) one in
+    omega (arith, or_add_and word (2 ^ k), mask)
+
+take_again : (words : List ℕ) (n : ℕ) → not (eqb (bit_and (answer_of (take_act (bit_with n)) words) (2 ^ (n % 64))) 0) ≡ true → after_act (take_act (bit_with n)) words ≡ words
+take_again words n held =
+    let word = slice_index words (n / 64) in
+    let same : bit_or word (2 ^ (n % 64)) ≡ word = set_again word (n % 64) (λ free. absurd (let both = eq-eqb _ _ free in cc)) in
+    ap (set words (n / 64)) same ∙ set-get_or words (n / 64) 0
+
+-- ---- an agent that waits
+
+-- an act after which an agent has waited is a lock that was held
+record Waits (a : AgentData) (t : Task) (s : Stage) (old : ℕ) : Type 0 where
+  locking : s ≡ stage.Locking
+  held : is_held a.geometry t stage.Locking old ≡ true
+  after : took_at a t s old ≡ waits_at a
+
+waits_so : (a : AgentData) (t : Task) (s : Stage) (old : ℕ) → (took_at a t s old).waited ≡ true → Waits a t s old
+waits_so a t stage.Locking old waited =
+    elim (cases_Bool (is_held a.geometry t stage.Locking old)) [
+      | inl held ↦ record { locking = refl; held = held; after = rw held refl }
+      | inr free ↦ absurd (let never = rw free at waited in cc)
+    ]
+waits_so a t stage.Looking old waited = absurd cc
+waits_so a t (stage.Reading z k) old waited = absurd cc
+waits_so a t (stage.Changing ch k) old waited = absurd cc
+waits_so a t (stage.Raising ch z k) old waited = absurd cc
+waits_so a t (stage.Releasing None) old waited = absurd cc
+waits_so a t (stage.Releasing (Some answer)) old waited = absurd cc
+waits_so a t stage.Stopped old waited = absurd cc
+
+waiting_is : (a : AgentData) → a.waited ≡ true → waits_at a ≡ a
+waiting_is a waited =
+    ap (λ (b : Bool). record { geometry = a.geometry; tasks = a.tasks; answers = a.answers; stage = a.stage; waited = b }) (sym waited)
+
+agent_again : (a : AgentData) (o : Option Task) (old : ℕ) → a.waited ≡ true → (took_under_way a o old).waited ≡ true → took_under_way a o old ≡ a
+agent_again a None old waited again = refl
+agent_again a (Some t) old waited again = (waits_so a t a.stage old again).after ∙ waiting_is a waited
+
+caller_again : (x : Caller) (old : ℕ) → caller_waits x ≡ true → caller_waits (caller_took x old) ≡ true → caller_took x old ≡ x
+caller_again (caller.Agent a) old waited again = ap caller.Agent (agent_again a (task_of a) old waited again)
+caller_again (caller.Cpu looks) old waited again = refl
+
+-- ---- the words after it
+
+locked_words : (g : GeometryData) (u : Task) (s : Stage) (t : Act) (words : List ℕ) → act_at g s u ≡ Some t → s ≡ stage.Locking
+    → is_held g u stage.Locking (answer_of t words) ≡ true → after_act t words ≡ words
+locked_words g u s t words next locking held =
+    let same : take_act (lock_bit_of g u) ≡ t = (let both = sym (ap (λ (x : Stage). act_at g x u) locking) ∙ next in cc) in
+    subst (λ (x : Act). after_act x words ≡ words) same
+    (take_again words _ (subst (λ (x : Act). is_held g u stage.Locking (answer_of x words) ≡ true) (sym same) held))
+
+agent_words : (a : AgentData) (o : Option Task) (t : Act) (words : List ℕ) → task_of a ≡ o → next_of a ≡ Some t → (took_under_way a o (answer_of t words)).waited ≡ true → after_act t words ≡ words
+agent_words a None t words under_way next waited = absurd (let never = rw under_way at next in cc)
+agent_words a (Some u) t words under_way next waited =
+    let so = waits_so a u a.stage (answer_of t words) waited in
+    locked_words a.geometry u a.stage t words (rw under_way at next) so.locking so.held
+
+caller_words : (x : Caller) (t : Act) (words : List ℕ) → caller_next x ≡ Some t → caller_waits (caller_took x (answer_of t words)) ≡ true → after_act t words ≡ words
+caller_words (caller.Agent a) t words next waited = agent_words a (task_of a) t words refl next waited
+caller_words (caller.Cpu looks) t words next waited = absurd cc
+
+-- ---- one turn
+
+-- a caller that had waited waits again: its turn changes nothing
+pub waits_still : (m : MachineData) (c : ℕ) (a : Caller) (t : Act) → c < length m.callers → a ≡ get_or m.callers c a → caller_next a ≡ Some t → caller_waits a ≡ true
+    → caller_waits (caller_took a (answer_of t m.words)) ≡ true → after_turn m c ≡ m
+waits_still m c a t within here next waited again =
+    let at : slice_get m.callers c ≡ Some a = slice_get-get_or m.callers c a within ∙ ap Some (sym here) in
+    let same : caller_took a (answer_of t m.words) ≡ a = caller_again a (answer_of t m.words) waited again in
+    let callers : set m.callers c (caller_took a (answer_of t m.words)) ≡ m.callers = ap (set m.callers c) (same ∙ here) ∙ set-get_or m.callers c a in
+    let words : after_act t m.words ≡ m.words = caller_words a t m.words next again in
+    rw (at, next) (λ i. record { geometry = m.geometry; callers = callers i; words = words i })
+
+-- ---- many turns
+
+-- where some turns change nothing, no number of them does
+still_turns : (m n : MachineData) (c k d : ℕ) → n ≡ after_turns m (replicate k c) → after_turn n c ≡ n → n ≡ after_turns m (replicate (k + d) c)
+still_turns m n c k zero so same = so ∙ ap (λ (x : ℕ). after_turns m (replicate x c)) (let sum : k ≡ k + 0 = omega arith in sum)
+still_turns m n c k (suc d) so same =
+    let before = still_turns m n c k d so same in
+    let sum : k + d + 1 ≡ k + suc d = omega arith in
+    sym same ∙ ap (λ (x : MachineData). after_turn x c) before
+    ∙ sym (after_turns-append m (replicate (k + d) c) (c ∷ [])) ∙ ap (after_turns m) (sym (replicate_more c (k + d)))
+    ∙ ap (λ (x : ℕ). after_turns m (replicate x c)) sum
+
+-- the turns that were asked for, where the last one that was made changed nothing
+pub turns_end : (m n p : MachineData) (c k count : ℕ) → n ≡ after_turns m (replicate k c) → p ≡ after_turn n c → p ≡ n → k < count → p ≡ after_turns m (replicate count c)
+turns_end m n p c k count so turned same before =
+    same ∙ still_turns m n c k (count - k) so (sym turned ∙ same) ∙ ap (λ (x : ℕ). after_turns m (replicate x c)) (let sum : k + (count - k) ≡ count = omega (arith, before) in sum)
+
+still_rounds : (m n : MachineData) (f : ℕ → List ℕ) (turns : List ℕ) (k d : ℕ) → ((x : ℕ) → f x ≡ turns) → n ≡ after_turns m (flat_map f (range_with_len 0 k)) → after_turns n turns ≡ n
+    → n ≡ after_turns m (flat_map f (range_with_len 0 (k + d)))
+still_rounds m n f turns k zero each so same = so ∙ ap (λ (x : ℕ). after_turns m (flat_map f (range_with_len 0 x))) (let sum : k ≡ k + 0 = omega arith in sum)
+still_rounds m n f turns k (suc d) each so same =
+    let before = still_rounds m n f turns k d each so same in
+    let sum : k + d + 1 ≡ k + suc d = omega arith in
+    sym same ∙ ap (after_turns n) (sym (each (k + d))) ∙ ap (λ (x : MachineData). after_turns x (f (k + d))) before
+    ∙ sym (after_turns-append m (flat_map f (range_with_len 0 (k + d))) (f (k + d))) ∙ ap (after_turns m) (sym (range_front f (k + d)))
+    ∙ ap (λ (x : ℕ). after_turns m (flat_map f (range_with_len 0 x))) sum
+
+pub rounds_end : (m n p : MachineData) (turns : List ℕ) (k times : ℕ) → n ≡ after_turns m (flat_map (λ (x : ℕ). turns) (range_with_len 0 k)) → p ≡ after_turns n turns → p ≡ n → k < times
+    → p ≡ after_turns m (flat_map (λ (x : ℕ). turns) (range_with_len 0 times))
+rounds_end m n p turns k times so turned same before =
+    same ∙ still_rounds m n (λ (x : ℕ). turns) turns k (times - k) (λ x. refl) so (sym turned ∙ same)
+    ∙ ap (λ (x : ℕ). after_turns m (flat_map (λ (y : ℕ). turns) (range_with_len 0 x))) (let sum : k + (times - k) ≡ times = omega (arith, before) in sum)
