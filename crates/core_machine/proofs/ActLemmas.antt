@@ -114,7 +114,7 @@ held_by g callers d n b (Some u) there made under_way has =
       | inr outside ↦ absurd (let both : false ≡ true = rw outside at has in cc)
     ]
 
-held_number : (g : GeometryData) (callers : List Caller) (d n : ℕ) (y : Caller) → slice_get callers d ≡ Some y → IsMade g y → holds n y ≡ true
+pub held_number : (g : GeometryData) (callers : List Caller) (d n : ℕ) (y : Caller) → slice_get callers d ≡ Some y → IsMade g y → holds n y ≡ true
     → (b : AgentData) × (u : Task) × Holder g callers d b u × (lock_number g.setup (address_of u) ≡ n)
 held_number g callers d n (caller.Cpu looks) there made has = absurd cc
 held_number g callers d n (caller.Agent b) there made has = held_by g callers d n b (task_of b) there made refl has

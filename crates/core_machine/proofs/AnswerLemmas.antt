@@ -38,7 +38,7 @@ use Rattle.core_machine.proofs.OthersLemmas.{granule_address}
 use Rattle.core_machine.specs.InnerAlone.{IsAlone}
 use Rattle.core_machine.specs.Facts.{AreAlone, AreWorn, IsCounted, is_on_block}
 use Rattle.delegate_ops.specs.Script.{AreCallEvents, CallEvent, Decides, IsCall, change_entry, completion, entries_of, granule_of_task}
-use Rattle.delegate_ops.specs.Deciding.{HasCause, address_of, generation_in, granule_place, idle_answer, is_idle, is_needed, refusal_of}
+use Rattle.delegate_ops.specs.Deciding.{HasCause, address_of, generation_in, granule_place, idle_answer, is_decided, is_needed, refusal_of}
 use Rattle.delegate_ops.specs.InnerScript.{IsPrefix}
 use Rattle.core_machine.specs.InnerInvariant.{Invariant}
 use Rattle.core_machine.specs.InnerHistory.{IsHistoryOf}
@@ -53,25 +53,25 @@ use Rattle.history.specs.Counts.{is_by, is_worn}
 
 -- ---- causes
 
-refusal_cause : (t : Task) (o : Option Gpi) (a : Answer) → refusal_of t o ≡ Some a → is_idle a ≡ false
+refusal_cause : (t : Task) (o : Option Gpi) (a : Answer) → refusal_of t o ≡ Some a → is_decided a ≡ true
 refusal_cause t None a refused = absurd cc
 refusal_cause t (Some found) a refused =
     elim (cases_Bool (is_needed (needed t) found)) [
       | inl same ↦ absurd (let both = rw same at refused in cc)
-      | inr other ↦ subst (λ (x : Answer). is_idle x ≡ false) (let both = rw other at refused in let is : answer.Perm found ≡ a = cc in is) refl
+      | inr other ↦ subst (λ (x : Answer). is_decided x ≡ true) (let both = rw other at refused in let is : answer.Perm found ≡ a = cc in is) refl
     ]
 
-worn_cause : (o : Option Size) (f : Size → ℕ) (a : Answer) → option_map (λ z. answer.Worn z (f z)) o ≡ Some a → is_idle a ≡ false
+worn_cause : (o : Option Size) (f : Size → ℕ) (a : Answer) → option_map (λ z. answer.Worn z (f z)) o ≡ Some a → is_decided a ≡ true
 worn_cause None f a worn = absurd cc
-worn_cause (Some z) f a worn = subst (λ (x : Answer). is_idle x ≡ false) (let is : answer.Worn z (f z) ≡ a = cc in is) refl
+worn_cause (Some z) f a worn = subst (λ (x : Answer). is_decided x ≡ true) (let is : answer.Worn z (f z) ≡ a = cc in is) refl
 
-decided_cause : (g : GeometryData) (c n : ℕ) (t : Task) (given : Answer) (events : List CallEvent) → Decides g c n t (Some given) events → is_idle given ≡ false
+decided_cause : (g : GeometryData) (c n : ℕ) (t : Task) (given : Answer) (events : List CallEvent) → Decides g c n t (Some given) events → is_decided given ≡ true
 decided_cause g c n t given events (inl refused) = refusal_cause t (word_gpi refused.word (granule_place g (address_of t))) given refused.refused
 decided_cause g c n t given events (inr (inl worn)) =
     worn_cause (find (λ z. is_worn (generation_in z worn.generations)) (size.Two ∷ size.ThirtyTwo ∷ size.FiveTwelve ∷ [])) (λ z. generation_in z worn.generations) given worn.worn
-decided_cause g c n t given events (inr (inr done)) = subst (λ (x : Answer). is_idle x ≡ false) (sym done.is) refl
+decided_cause g c n t given events (inr (inr done)) = subst (λ (x : Answer). is_decided x ≡ true) (sym done.is) refl
 
-call_cause : (g : GeometryData) (c n : ℕ) (t : Task) (o : Option Answer) (given : Answer) (events : List CallEvent) → IsCall g c n t o given events → MatchOption o (is_idle given ≡ false) (λ idle. given ≡ idle)
+call_cause : (g : GeometryData) (c n : ℕ) (t : Task) (o : Option Answer) (given : Answer) (events : List CallEvent) → IsCall g c n t o given events → MatchOption o (is_decided given ≡ true) (λ idle. given ≡ idle)
 call_cause g c n t (Some idle) given events call = sym call.0
 call_cause g c n t None given events call = decided_cause g c n t given call.deciding call.decided
 

@@ -24,9 +24,9 @@ use Rattle.delegate_ops.proofs.NextLemmas.{next_there}
 use Rattle.delegate_ops.proofs.ScriptLemmas.{some_mapped}
 use Rattle.core_machine.specs.declared.caller.Caller.{Caller}
 use Rattle.core_machine.specs.declared.caller.Caller.TheVariants as caller
-use Rattle.core_machine.specs.InnerLocks.{holds}
-use Rattle.core_machine.specs.Laws.{ActsHavePlaces, ActsKeepTheirCaller, AgentsGoOn, WaitsHaveCauses}
-use Rattle.core_machine.proofs.ActLemmas.{lock_low}
+use Rattle.core_machine.specs.InnerLocks.{is_inside, holds}
+use Rattle.core_machine.specs.InnerCallerLaws.{ActsHavePlaces, ActsKeepTheirCaller, AgentsGoOn, WaitsHaveCauses}
+use Rattle.core_machine.proofs.ActLemmas.{lock_low, held_number}
 use Rattle.core_machine.proofs.LoadActs.{l1_low}
 use Rattle.core_machine.proofs.LawLemmas.{took_leaves}
 use Rattle.core_machine.proofs.FitLemmas.{took_tasks}
@@ -87,16 +87,22 @@ waits_have_causes g first words callers h c a t stands at locking under_way bit 
     let low : n < 128 = lock_low g.setup (address_of t) stands.shape.geometry.setup (acts_inside g t acts) in
     elim (some_or_none (holds n) callers) [
       | inl none ↦ absurd (bit (stands.locks n low ∙ none))
-      | inr some ↦ (
-        some.0,
-        some.1,
-        (λ same.
-        let there : slice_get callers c ≡ Some some.1 = subst (λ (i : ℕ). slice_get callers i ≡ Some some.1) same some.2 in
-        let mine : caller.Agent a ≡ some.1 = (let both : Some (caller.Agent a) ≡ Some some.1 = sym at ∙ there in cc) in
-        let outside : holds n (caller.Agent a) ≡ false = rw locking refl in
-        let both : true ≡ false = sym some.3 ∙ ap (holds n) (sym mine) ∙ outside in
-        cc),
-        some.2,
-        some.3,
-      )
+      | inr some ↦
+          (let holder = held_number g callers some.0 n some.1 some.2 (made_at_place g first words callers some.0 some.1 stands.shape some.2) some.3 in
+          let agent = holder.0 in
+          (
+            some.0,
+            agent,
+            holder.1,
+            (λ same.
+            let there : slice_get callers c ≡ Some (caller.Agent agent) = subst (λ (i : ℕ). slice_get callers i ≡ Some (caller.Agent agent)) same holder.2.at in
+            let mine : a ≡ agent = (let both : Some (caller.Agent a) ≡ Some (caller.Agent agent) = sym at ∙ there in cc) in
+            let outside : is_inside a.stage ≡ false = rw locking refl in
+            let both : true ≡ false = sym holder.2.inside ∙ ap (λ (x : AgentData). is_inside x.stage) (sym mine) ∙ outside in
+            cc),
+            holder.2.at,
+            holder.2.inside,
+            holder.2.under_way,
+            holder.3,
+          ))
     ]

@@ -19,7 +19,7 @@ use Rattle.history.specs.declared.outcome.Outcome.{Outcome}
 use Rattle.delegate_ops.specs.declared.stage.Stage.{Stage}
 use Rattle.delegate_ops.specs.declared.stage.Stage.TheVariants as stage
 use Rattle.delegate_ops.specs.InnerAgents.{AgentData, is_held, took_at, took_under_way, task_of}
-use Rattle.core_machine.specs.Laws.{agent_tasks}
+use Rattle.core_machine.specs.InnerCallerLaws.{agent_tasks}
 use Rattle.core_machine.specs.declared.caller.Caller.{Caller}
 use Rattle.core_machine.specs.declared.caller.Caller.TheVariants as caller
 use Rattle.core_machine.specs.InnerCallers.{caller_next, caller_took, caller_answers}

@@ -59,7 +59,7 @@ use Rattle.delegate_ops.proofs.NextLemmas.{next_there}
 use Rattle.scenario_text.specs.declared.scenario.Look.{Look}
 use Rattle.core_machine.proofs.LegalLemmas.{HaveTasks, AreMade, made_legal, made_calls}
 use Rattle.core_machine.proofs.PlayLemmas.{turns_geometry}
-use Rattle.core_machine.specs.Laws.{agent_tasks}
+use Rattle.core_machine.specs.InnerCallerLaws.{agent_tasks}
 use Rattle.core_machine.proofs.FitLemmas.{took_tasks, turns_leave}
 use Rattle.core_machine.specs.Facts.{IsCounted, generation_word, FitsHistory}
 use Rattle.core_machine.specs.Trace.{TraceEvent, events_of, FollowsScript, HasEnded, IsTrace, answers_by, history_of}
@@ -235,7 +235,7 @@ fits_history g first words callers h tasks stands have made count =
       size = stands.shape.size;
       legal = made_legal g first callers h tasks stands.history have made stands.shape.granules;
       calls = made_calls g first callers h tasks stands.history have made count;
-      causes = causes_told g callers tasks have made;
+      causes = λ c k t given asked answered transition. causes_told g callers tasks have made c k t given asked answered;
       counts = counts_told g first words callers h tasks stands have;
       worn = worn_told g first words callers h tasks stands have made;
       undisturbed = stands.undisturbed;

@@ -18,7 +18,7 @@ use Rattle.history.specs.States.{start, state_after}
 use Rattle.history.specs.Legality.{needed}
 use Rattle.history.specs.Calls.{task_at, answer_at, IsLegalHistory, HasCalls}
 use Rattle.history.specs.Counts.{is_by, count_of, AreDoneCounts, IsWornCount}
-use Rattle.delegate_ops.specs.Deciding.{HasCause}
+use Rattle.delegate_ops.specs.Deciding.{is_look, HasCause}
 use Rattle.delegate_ops.specs.Script.{granule_of_task}
 use Rattle.core_machine.specs.Scenarios.{map_at}
 
@@ -72,8 +72,8 @@ pub record FitsHistory (g : GeometryData) (first : List Gpi) (tasks : List (List
   pub size : length words ≡ word_count g
   pub legal : IsLegalHistory (granule_bytes g.setup) tasks answers (start first) h
   pub calls : HasCalls (granule_bytes g.setup) tasks answers h
-  -- Inval and Unknown by their causes, and the generations of Done and Worn
-  pub causes : (c k : ℕ) (t : Task) (given : Answer) → task_at tasks c k ≡ Some t → answer_at answers c k ≡ Some given → HasCause g t given
+  -- the answers of transitions by their causes, and the generations of Done and Worn
+  pub causes : (c k : ℕ) (t : Task) (given : Answer) → task_at tasks c k ≡ Some t → answer_at answers c k ≡ Some given → is_look t ≡ false → HasCause g t given
   pub counts : (c k : ℕ) (t : Task) (given : Answer) → task_at tasks c k ≡ Some t → answer_at answers c k ≡ Some given → IsCounted g c k t given h
   pub worn : AreWorn g tasks answers h
   -- transitions on one lock block don't mix

@@ -13,7 +13,7 @@ pub mod InnerAlone
 pub mod InnerCounted
 pub mod InnerInvariant
 pub mod InnerLaw
-pub mod Laws
+pub mod InnerCallerLaws
 pub mod InnerMachine
 pub mod InnerOpening
 pub mod InnerPlay

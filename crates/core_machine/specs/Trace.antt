@@ -47,11 +47,12 @@ abbrev pub FollowsScript : GeometryData → ℕ → Script → List Answer → L
 FollowsScript g c (script.Agent asks) answers events = Follows g c (map task_of_ask asks) answers events
 FollowsScript g c (script.Cpu looks) answers events = (answers ≡ []) × (events ≡ [])
 
--- a caller makes no further act: each of its calls is answered, or it has stopped
+-- a caller makes no further act: each of its calls is answered, or it has stopped; a processor makes none yet
 abbrev pub HasEnded : GeometryData → ℕ → Option Script → List Answer → List CallEvent → Type 0
 HasEnded g c (Some (script.Agent asks)) answers events =
     (length answers ≡ length asks) ⊎ HasStopped g c (map task_of_ask asks) answers events
-HasEnded g c o answers events = Unit {0}
+HasEnded g c (Some (script.Cpu looks)) answers events = Unit {0}
+HasEnded g c None answers events = Unit {0}
 
 -- the answers of a caller
 abbrev pub answers_by : List (List Answer) → Option (List Answer) → List Answer

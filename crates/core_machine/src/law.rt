@@ -1,5 +1,5 @@
 ghost use Rattle.core_machine.specs.InnerLaw.{OneActKeeps};
-ghost use Rattle.core_machine.specs.Laws.{ActsHavePlaces, ActsKeepTheirCaller, AgentsGoOn, WaitsHaveCauses};
+ghost use Rattle.core_machine.specs.InnerCallerLaws.{ActsHavePlaces, ActsKeepTheirCaller, AgentsGoOn, WaitsHaveCauses};
 
 /// The law of the core: whatever act a caller makes next, its place is one of the shared words, the caller
 /// can take its answer, and the invariant of the core holds again after it, with the history and the

@@ -81,12 +81,19 @@ worn_answer k =
 
 -- ---- causes
 
--- an answer of a task without acts
-abbrev pub is_idle : Answer → Bool
-is_idle answer.Inval = true
-is_idle answer.Unknown = true
-is_idle a = false
+-- an access
+abbrev pub is_look : Task → Bool
+is_look (task.Look pa space) = true
+is_look t = false
 
--- Inval and Unknown are the answers of exactly the tasks without acts, each by its cause
+-- an answer of a transition that has acts
+abbrev pub is_decided : Answer → Bool
+is_decided (answer.Perm found) = true
+is_decided (answer.Worn z value) = true
+is_decided (answer.Done generations) = true
+is_decided a = false
+
+-- Inval and Unknown are the answers of exactly the calls without acts, each by its cause; a call that has acts is
+-- answered Perm, Worn or Done
 abbrev pub HasCause : GeometryData → Task → Answer → Type 0
-HasCause g t given = MatchOption (idle_answer g t) (is_idle given ≡ false) (λ idle. given ≡ idle)
+HasCause g t given = MatchOption (idle_answer g t) (is_decided given ≡ true) (λ idle. given ≡ idle)

@@ -22,6 +22,7 @@ use Rattle.delegate_ops.specs.declared.stage.Change.TheVariants as change
 use Rattle.delegate_ops.specs.declared.stage.Kept.{Kept}
 use Rattle.delegate_ops.specs.declared.stage.Stage.{Stage}
 use Rattle.delegate_ops.specs.declared.stage.Stage.TheVariants as stage
+pub use Rattle.delegate_ops.specs.Deciding.{is_look}
 use Rattle.delegate_ops.specs.Deciding.{address_of, idle_answer, looked_answer, is_granules, generation_in, worn_answer}
 use Rattle.delegate_ops.specs.Changing.{first_change, changed_word, with_generation, raised_at}
 use Rattle.delegate_ops.specs.Script.{lock_bit_of}
@@ -34,10 +35,6 @@ pub record AgentData : Type 0 where
   pub waited : Bool
 
 -- ---- tasks
-
-abbrev pub is_look : Task → Bool
-is_look (task.Look pa space) = true
-is_look t = false
 
 -- the task under way, the first one without an answer
 abbrev pub task_of : AgentData → Option Task

@@ -5,7 +5,7 @@ use Rattle.gpi_values.specs.declared.gpi.Gpi.{Gpi}
 use Rattle.gpt_descriptors.specs.Places.{GeometryData, word_count}
 use Rattle.shared_words.specs.declared.act.Act.{Act}
 use Rattle.shared_words.specs.Acts.{place_in}
-use Rattle.bit_locks.specs.Locks.{lock_number, lock_bit, IsFree}
+use Rattle.bit_locks.specs.Locks.{lock_number, lock_bit}
 use Rattle.history.specs.declared.call.Task.{Task}
 use Rattle.history.specs.declared.entry.Entry.{Entry}
 use Rattle.delegate_ops.specs.declared.stage.Stage.TheVariants as stage
@@ -14,7 +14,7 @@ use Rattle.delegate_ops.specs.InnerAgents.{AgentData, IsAgent, task_of, has_ende
 use Rattle.core_machine.specs.declared.caller.Caller.{Caller}
 use Rattle.core_machine.specs.declared.caller.Caller.TheVariants as caller
 use Rattle.core_machine.specs.InnerCallers.{caller_next, caller_took}
-use Rattle.core_machine.specs.InnerLocks.{holds}
+use Rattle.core_machine.specs.InnerLocks.{is_inside}
 use Rattle.core_machine.specs.InnerInvariant.{Invariant}
 
 -- a caller that was made with this geometry
@@ -40,10 +40,11 @@ ActsKeepTheirCaller =
 abbrev pub AgentsGoOn : Type 0
 AgentsGoOn = (a : AgentData) → IsAgent a → has_ended a ≡ false → is_some (caller_next (caller.Agent a)) ≡ true
 
--- where the lock that an agent is about to take isn't free, another caller holds it: it has a call under way on
--- that lock block
+-- where the lock that an agent is about to take isn't free, another caller is an agent between its lock and unlock,
+-- with a call under way on that lock block
 abbrev pub WaitsHaveCauses : Type 0
 WaitsHaveCauses =
     (g : GeometryData) (first : List Gpi) (words : List ℕ) (callers : List Caller) (h : List Entry) (c : ℕ) (a : AgentData) (t : Task) → Invariant g first words callers h
     → slice_get callers c ≡ Some (caller.Agent a) → a.stage ≡ stage.Locking → task_of a ≡ Some t → lock_bit words (lock_number g.setup (address_of t)) ≢ 0
-    → (d : ℕ) × (other : Caller) × (d ≢ c) × (slice_get callers d ≡ Some other) × (holds (lock_number g.setup (address_of t)) other ≡ true)
+    → (d : ℕ) × (b : AgentData) × (u : Task) × (d ≢ c) × (slice_get callers d ≡ Some (caller.Agent b)) × (is_inside b.stage ≡ true) × (task_of b ≡ Some u)
+    × (lock_number g.setup (address_of u) ≡ lock_number g.setup (address_of t))
