@@ -27,3 +27,4 @@ pub mod AnswerLemmas
 pub mod PartLemmas
 pub mod RunLemmas
 pub mod StillLemmas
+pub mod LeaveLemmas
