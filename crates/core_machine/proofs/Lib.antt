@@ -28,3 +28,4 @@ pub mod PartLemmas
 pub mod RunLemmas
 pub mod CallerLaws
 pub mod StillLemmas
+pub mod LeaveLemmas

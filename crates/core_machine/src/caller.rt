@@ -4,6 +4,7 @@ ghost use Rattle.core_machine.specs.InnerCallers.{caller_next, caller_took, call
 use delegate_ops::Agent;
 use history::Answer;
 use shared_words::Act;
+use std::alloc::Global;
 
 /// One that acts on the shared words: an agent, or a processor, of which the number of accesses alone is
 /// kept until processors act.
@@ -53,6 +54,16 @@ impl Caller {
         match self {
             Caller::Agent(agent) => agent.answers(),
             Caller::Cpu(_) => &[],
+        }
+    }
+
+    /// The answers, in the order of the calls. They are moved, not copied.
+    pub fn into_answers(self, alloc: Global) -> Vec<Answer>
+        ensures { result.items ≡ caller_answers self }
+    {
+        match self {
+            Caller::Agent(agent) => agent.into_answers(),
+            Caller::Cpu(_) => Vec::new(alloc),
         }
     }
 

@@ -1,4 +1,4 @@
-ghost use Rattle.std.specs.Prelude.{◌≡◌, [], IfOk, length, map, count_by};
+ghost use Rattle.std.specs.Prelude.{◌≡◌, ◌≤◌, [], IfOk, length, map, count_by, vec_capacity};
 ghost use Rattle.gpt_descriptors.specs.Places.{IsGeometry, word_count};
 ghost use Rattle.scenario_text.specs.Spelling.{WellFormed};
 ghost use Rattle.scenario_text.specs.Calls.{AreAnswersOf};
@@ -30,15 +30,17 @@ pub fn count_cpus(scripts: &[Script]) -> usize
         .count()
 }
 
-/// The answers of all callers, in their order.
-fn answers_of(alloc: Global, callers: &[Caller]) -> Result<Vec<Listed<Answer>>, AllocError>
-    ensures { IfOk result (λ answers. answers.items ≡ map caller_answers callers.now) }
+/// Moves the answers of all callers, in their order, into the room for them.
+fn answers_of(alloc: Global, callers: Vec<Caller>, room: Vec<Listed<Answer>>) -> Vec<Listed<Answer>>
+    requires empty { room.items ≡ [] }
+    requires room { length callers.items ≤ vec_capacity room }
+    ensures { result.items ≡ map caller_answers callers.items }
 {
-    let mut answers = Vec::with_capacity(alloc, callers.len())?;
+    let mut answers = room;
     for caller in callers {
-        answers.push(Listed::new(Vec::from_slice(alloc, caller.answers())?))?;
+        answers.push_reserved(Listed::new(caller.into_answers(alloc)));
     }
-    Ok(answers)
+    answers
 }
 
 /// The geometry of a scenario whose tables were built: where each of its shared words is.
@@ -72,20 +74,23 @@ fn open(
     Ok(Machine::new(geometry, callers, words))
 }
 
-/// What a machine leaves.
-fn leave(alloc: Global, machine: Machine<PlainWords>) -> Result<Outcome, AllocError>
-    ensures { IfOk result (λ outcome. outcome ≡ outcome_of machine) }
+/// What a machine leaves, with room for the answers of its callers.
+fn leave(alloc: Global, machine: Machine<PlainWords>, room: Vec<Listed<Answer>>) -> Outcome
+    requires empty { room.items ≡ [] }
+    requires room { length machine.callers ≤ vec_capacity room }
+    ensures { result ≡ outcome_of machine }
 {
     let geometry = machine.geometry();
     let (callers, words) = machine.into_parts();
-    Ok(Outcome {
+    Outcome {
         geometry,
-        answers: Listed::new(answers_of(alloc, &callers)?),
+        answers: Listed::new(answers_of(alloc, callers, room)),
         words: Listed::new(words.into_words()),
-    })
+    }
 }
 
 /// All turns of a scenario's schedule, on its built tables: each gives its caller one act, if it has one.
+/// No memory is taken after the first act.
 /// The outcome is what the trace of the schedule leaves, and is that of one legal history, the trace's. It has
 /// all shared words, and no caller has more answers than calls.
 pub fn play(alloc: Global, scenario: &Scenario, tables: Tables) -> Result<Outcome, AllocError>
@@ -98,6 +103,7 @@ pub fn play(alloc: Global, scenario: &Scenario, tables: Tables) -> Result<Outcom
     ensures answered { IfOk result (λ outcome. AreAnswersOf scenario.now.scripts outcome.answers) }
 {
     let mut machine = open(alloc, scenario, &tables)?;
+    let room = Vec::with_capacity(alloc, scenario.scripts.as_slice().len())?;
     machine.schedule(scenario.schedule.as_slice());
-    leave(alloc, machine)
+    Ok(leave(alloc, machine, room))
 }
