@@ -71,7 +71,7 @@ acts_have_places g (caller.Cpu looks) next made e = absurd cc
 -- ---- what an act keeps
 
 pub acts_keep : ActsKeepTheirCaller
-acts_keep g (caller.Agent a) old made = ((took_leaves a (task_of a) old).0 ∙ made.0, took_is_agent a old made.1, took_tasks (caller.Agent a) old)
+acts_keep g (caller.Agent a) old made = (((took_leaves a (task_of a) old).0 ∙ made.0, took_is_agent a old made.1), took_tasks (caller.Agent a) old)
 acts_keep g (caller.Cpu looks) old made = (tt, refl)
 
 pub agents_go_on : AgentsGoOn

@@ -224,13 +224,13 @@ caller_calls g callers h tasks c (caller.Agent a) own at have made entries asks 
     (agent_calls c a h is.2 is.1 is.3 entries))
 caller_calls g callers h tasks c (caller.Cpu looks) own at have made entries asks = cpu_calls (granule_bytes g.setup) c own h entries
 
-told_calls : (g : GeometryData) (first : List Gpi) (callers : List Caller) (h : List Entry) (tasks : List (List Task)) (c : ℕ) (own : List Task) (given : List Answer)
+given_calls : (g : GeometryData) (first : List Gpi) (callers : List Caller) (h : List Entry) (tasks : List (List Task)) (c : ℕ) (own : List Task) (given : List Answer)
     → IsHistoryOf first callers h → HaveTasks tasks callers → AreMade g callers → slice_get tasks c ≡ Some own → slice_get (map caller_answers callers) c ≡ Some given
     → calls.AreCalls (granule_bytes g.setup) c own given h
-told_calls g first callers h tasks c own given tells have made asks answers =
+given_calls g first callers h tasks c own given tells have made asks answers =
     elim (slice_get_cases callers c).1 [
       | inl here ↦
-          let given = answers_at callers c here.0 here.2 in
+          let there = answers_at callers c here.0 here.2 in
           let same : caller_answers here.0 ≡ given = cc in
           subst (λ (list : List Answer). calls.AreCalls (granule_bytes g.setup) c own list h) same
           (caller_calls g callers h tasks c here.0 own here.2 have made (tells.own c here.0 here.2) asks)
@@ -241,6 +241,6 @@ told_calls g first callers h tasks c own given tells have made asks answers =
 pub made_calls : (g : GeometryData) (first : List Gpi) (callers : List Caller) (h : List Entry) (tasks : List (List Task)) → IsHistoryOf first callers h → HaveTasks tasks callers → AreMade g callers
     → length tasks ≡ length callers → HasCalls (granule_bytes g.setup) tasks (map caller_answers callers) h
 made_calls g first callers h tasks tells have made count = record {
-  callers = λ c own given asks answers. told_calls g first callers h tasks c own given tells have made asks answers;
+  callers = λ c own given asks answers. given_calls g first callers h tasks c own given tells have made asks answers;
   known = subst (λ (n : ℕ). All (λ (e : Entry). caller_in e < n) h) (sym count) tells.known;
 }
