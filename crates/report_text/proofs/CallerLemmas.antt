@@ -101,10 +101,10 @@ begun items bytes first text e added empty = e ∙ (added ∙ ap (λ (t : List �
 pub one_told : (k : ℕ) (scripts lent_scripts : List Script) (answers lent_answers : List (List Answer)) (s : Script) (x own : List Answer) (text : List ℕ)
     → lent_scripts ≡ scripts → lent_answers ≡ answers → s ≡ get_or lent_scripts k s → x ≡ get_or lent_answers k x → own ≡ x → text ≡ caller_text k s own
     → (script : Script) (given : List Answer) → slice_get scripts k ≡ Some script → slice_get answers k ≡ Some given → text ≡ caller_text k script given
-one_told k scripts lent_scripts answers lent_answers s x own text es ea is ix e given script given fs fg =
+one_told k scripts lent_scripts answers lent_answers s x own text es ea is ix e written script given fs fg =
     let one : s ≡ script = is ∙ (ap (λ (l : List Script). get_or l k s) es ∙ get_or_from_slice_get scripts k script s fs) in
     let two : x ≡ given = ix ∙ (ap (λ (l : List (List Answer)). get_or l k x) ea ∙ get_or_from_slice_get answers k given x fg) in
-    given ∙ (ap (λ (t : Script). caller_text k t own) one ∙ ap (caller_text k script) (e ∙ two))
+    written ∙ (ap (λ (t : Script). caller_text k t own) one ∙ ap (caller_text k script) (e ∙ two))
 
 pub one_short : (k : ℕ) (scripts lent_scripts : List Script) (answers lent_answers : List (List Answer)) (s : Script) (x own : List Answer)
     → lent_scripts ≡ scripts → lent_answers ≡ answers → s ≡ get_or lent_scripts k s → x ≡ get_or lent_answers k x → own ≡ x
