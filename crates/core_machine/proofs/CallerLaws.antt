@@ -89,17 +89,16 @@ waits_have_causes g first words callers h c a t stands at locking under_way bit 
       | inl none ↦ absurd (bit (stands.locks n low ∙ none))
       | inr some ↦
           (let holder = held_number g callers some.0 n some.1 some.2 (made_at_place g first words callers some.0 some.1 stands.shape some.2) some.3 in
-          let agent = holder.0 in
-          (
+          let agent = holder.0 in (
             some.0,
             agent,
             holder.1,
             (λ same.
-            let there : slice_get callers c ≡ Some (caller.Agent agent) = subst (λ (i : ℕ). slice_get callers i ≡ Some (caller.Agent agent)) same holder.2.at in
-            let mine : a ≡ agent = (let both : Some (caller.Agent a) ≡ Some (caller.Agent agent) = sym at ∙ there in cc) in
-            let outside : is_inside a.stage ≡ false = rw locking refl in
-            let both : true ≡ false = sym holder.2.inside ∙ ap (λ (x : AgentData). is_inside x.stage) (sym mine) ∙ outside in
-            cc),
+                let there : slice_get callers c ≡ Some (caller.Agent agent) = subst (λ (i : ℕ). slice_get callers i ≡ Some (caller.Agent agent)) same holder.2.at in
+                let mine : a ≡ agent = (let both : Some (caller.Agent a) ≡ Some (caller.Agent agent) = sym at ∙ there in cc) in
+                let outside : is_inside a.stage ≡ false = rw locking refl in
+                let both : true ≡ false = sym holder.2.inside ∙ ap (λ (x : AgentData). is_inside x.stage) (sym mine) ∙ outside in
+                cc),
             holder.2.at,
             holder.2.inside,
             holder.2.under_way,

@@ -180,7 +180,7 @@ released first words callers h c a t o x acting made holds_none open_none due_no
       size = length-set words (n / 64) _;
       made = made;
       tables = tables_keep a.geometry words _ (state_of first h).map stands.shape.geometry (locks_apart a.geometry words (n / 64) _ row) stands.tables;
-              idle = idle_lock a.geometry words (n / 64) _ row stands.idle;
+      idle = idle_lock a.geometry words (n / 64) _ row stands.idle;
       opened = open_none;
       locks = λ m below. rw (holds_none m, acting.under_way) (release_held words n m within set_bit);
       seen = sees _;

@@ -237,7 +237,7 @@ done_stays m c (d ∷ turns) o at done =
     let now = leaves_turn m c d o (slice_get m.callers d) at done refl in
     let later = done_stays (after_turn m d) c turns o now.same done in (
       subst (All (λ x. x ≢ c)) (sym (map-append (λ (e : TraceEvent). e.caller) (turn_event_of m d (slice_get m.callers d)) (trace_of (after_turn m d) turns)))
-      (All-append (λ x. x ≢ c) (callers_in (turn_event_of m d (slice_get m.callers d))) (callers_in (trace_of (after_turn m d) turns)) now.none later.0),
+          (All-append (λ x. x ≢ c) (callers_in (turn_event_of m d (slice_get m.callers d))) (callers_in (trace_of (after_turn m d) turns)) now.none later.0),
       later.1,
     )
 

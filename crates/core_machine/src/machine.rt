@@ -20,7 +20,6 @@ pub struct Machine<W: Words> {
 }
 
 impl<W: Words> Model for Machine<W> {
-
     ghost Value = { MachineData };
 
     ghost view = { λ m. record { geometry = m.geometry; callers = m.callers.items; words = W.words m.words } };

@@ -42,9 +42,13 @@ calls_and_one : (g : GeometryData) (c n : ℕ) (tasks : List Task) (answers : Li
 calls_and_one g c n [] [] calls own t a here call are = absurd cc
 calls_and_one g c n (x ∷ tasks) [] calls own t a here call are =
     let same : t ≡ x = cc in
-    let number : n + 0 ≡ n = omega arith in
-    (own, [], ap (λ (es : List CallEvent). es ++ own) are ∙ sym (append-nil own),
-    subst (λ (y : Task). IsCall g c n y (idle_answer g y) a own) same (subst (λ (m : ℕ). IsCall g c m t (idle_answer g t) a own) number call), refl)
+    let number : n + 0 ≡ n = omega arith in (
+      own,
+      [],
+      ap (λ (es : List CallEvent). es ++ own) are ∙ sym (append-nil own),
+      subst (λ (y : Task). IsCall g c n y (idle_answer g y) a own) same (subst (λ (m : ℕ). IsCall g c m t (idle_answer g t) a own) number call),
+      refl,
+    )
 calls_and_one g c n [] (b ∷ answers) calls own t a here call are = absurd are
 calls_and_one g c n (x ∷ tasks) (b ∷ answers) calls own t a here call are =
     let number : n + suc (length answers) ≡ n + 1 + length answers = omega arith in (

@@ -15,10 +15,10 @@ pub fn agents_follow_their_script()
     ensures step { (c : ℕ) (a : AgentData) (events : List CallEvent) (next : Act) (old : ℕ)
         → IsAgent a → HasWalked c a events → next_of a ≡ Some next
         → HasWalked c (took_of a old) (events ++ record {
-            act = next;
-            old = old;
-            made = made_at a.geometry c (length a.answers) a.stage (task_of a) old
-          } ∷ []) }
+          act = next;
+          old = old;
+          made = made_at a.geometry c (length a.answers) a.stage (task_of a) old;
+        } ∷ []) }
     ensures follows { (c : ℕ) (a : AgentData) (events : List CallEvent)
         → IsAgent a → HasWalked c a events → Follows a.geometry c a.tasks a.answers events }
     ensures ended { (c : ℕ) (a : AgentData) (events : List CallEvent)
