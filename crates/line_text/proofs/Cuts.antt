@@ -53,11 +53,13 @@ some_field text = let some = some_part (λ c. c == 32) text in rw some.1.1 (ne_e
 -- ---- the first place of a byte
 
 pub past_one : (at : ℕ) (text : List ℕ) (k : ℕ) → IsPast at text k → k < length text → get_or text k 0 ≢ at → IsPast at text (k + 1)
-past_one at text k past lt ne =
-    (omega arith, λ j less. elim (cases_eq j k) [
-      | inl e ↦ ap (λ (n : ℕ). get_or text n 0 == at) e ∙ ne_eqb (get_or text k 0) at ne
-      | inr other ↦ past.1 j (omega arith)
-    ])
+past_one at text k past lt ne = (
+  omega arith,
+  λ j less. elim (cases_eq j k) [
+    | inl e ↦ ap (λ (n : ℕ). get_or text n 0 == at) e ∙ ne_eqb (get_or text k 0) at ne
+    | inr other ↦ past.1 j (omega arith)
+  ],
+)
 
 pub past_two : (at : ℕ) (text : List ℕ) (k : ℕ) → IsPast at text k → k + 1 < length text → get_or text k 0 ≢ at → get_or text (k + 1) 0 ≢ at → IsPast at text (k + 2)
 past_two at text k past lt a b =
