@@ -1,12 +1,14 @@
 -- Where a list is cut the first time.
-use Rattle.std.proofs.Common.{◌≡◌, ℕ, cond, false, ap, ◌+◌, ◌-◌, ◌≤◌, Bool, ltb, List, [], ◌∷◌, length, take, drop, Some, None, refl, inl, inr, arith}
+use Rattle.std.proofs.Common.{◌≡◌, ◌≢◌, ℕ, cond, false, ap, subst, ◌∙◌, ◌+◌, ◌-◌, ◌<◌, ◌≤◌, Bool, ltb, List, [], ◌∷◌, length, get_or, take, drop, Some, None, refl, inl, inr, arith}
 use Rattle.std.specs.Prelude.{position, map, ◌==◌, not}
 use Rattle.std.specs.List.{slice_split, position_or_len}
-use Rattle.std.proofs.lemmas.Bool.{cases_Bool, ltb-true, ltb-false, ne_eqb}
+use Rattle.std.proofs.lemmas.Bool.{cases_Bool, cases_eq, ltb-true, ltb-false, lt-ltb, le-ltb, eq-eqb, ne_eqb}
 use Rattle.std.proofs.lemmas.List.{take_rest, length-map}
 use Rattle.std.proofs.lemmas.List.Splits.{slice_split_first}
+use Rattle.std.proofs.lemmas.List.Sums.{position_or_len_is}
 use Rattle.std.proofs.lemmas.Option.{same_Some}
 use Rattle.line_text.specs.Lines.{fields_in}
+use Rattle.line_text.specs.InnerRows.{IsPast}
 use Rattle.line_text.proofs.Steps.{chosen}
 
 uncut : {X : Type 0} (p : X → Bool) (xs : List X) → length xs ≤ position_or_len p xs → slice_split p xs ≡ xs ∷ []
@@ -47,6 +49,37 @@ some_part p (x ∷ xs) =
 -- so bytes have at least one field
 pub some_field : (text : List ℕ) → (length (fields_in text) == 0) ≡ false
 some_field text = let some = some_part (λ c. c == 32) text in rw some.1.1 (ne_eqb _ 0 (λ e. omega arith))
+
+-- ---- the first place of a byte
+
+pub past_one : (at : ℕ) (text : List ℕ) (k : ℕ) → IsPast at text k → k < length text → get_or text k 0 ≢ at → IsPast at text (k + 1)
+past_one at text k past lt ne = (
+  omega arith,
+  λ j less. elim (cases_eq j k) [
+    | inl e ↦ ap (λ (n : ℕ). get_or text n 0 == at) e ∙ ne_eqb (get_or text k 0) at ne
+    | inr other ↦ past.1 j (omega arith)
+  ],
+)
+
+pub past_two : (at : ℕ) (text : List ℕ) (k : ℕ) → IsPast at text k → k + 1 < length text → get_or text k 0 ≢ at → get_or text (k + 1) 0 ≢ at → IsPast at text (k + 2)
+past_two at text k past lt a b =
+    subst (IsPast at text) {x = k + 1 + 1} {y = k + 2} (omega arith) (past_one at text (k + 1) (past_one at text k past (omega arith) a) (omega arith) b)
+
+pub past_three : (at : ℕ) (text : List ℕ) (k : ℕ) → IsPast at text k → k + 2 < length text → get_or text k 0 ≢ at → get_or text (k + 1) 0 ≢ at → get_or text (k + 2) 0 ≢ at → IsPast at text (k + 3)
+past_three at text k past lt a b d =
+    subst (IsPast at text) {x = k + 2 + 1} {y = k + 3} (omega arith) (past_one at text (k + 2) (past_two at text k past (omega arith) a b) (omega arith) d)
+
+-- the byte is at place k
+pub is_first : (at : ℕ) (text : List ℕ) (k : ℕ) → IsPast at text k → k < length text → get_or text k 0 ≡ at → Some k ≡ position (λ c. c == at) text
+is_first at text k past lt e =
+    let place : position_or_len (λ c. c == at) text ≡ k = position_or_len_is (λ c. c == at) text k 0 (omega arith) past.1 (λ _. eq-eqb (get_or text k 0) at e) in
+    rw (place, lt-ltb k (length text) lt) refl
+
+-- it is nowhere
+pub is_nowhere : (at : ℕ) (text : List ℕ) (k : ℕ) → IsPast at text k → length text ≤ k → None ≡ position (λ c. c == at) text
+is_nowhere at text k past le =
+    let place : position_or_len (λ c. c == at) text ≡ k = position_or_len_is (λ c. c == at) text k 0 past.0 past.1 (λ lt. absurd (omega arith)) in
+    rw (place, le-ltb k (length text) le) refl
 
 -- ---- places
 

@@ -2,7 +2,7 @@
 use Rattle.std.proofs.Common.{◌≡◌, ◌≢◌, ℕ, suc, zero, ◌+◌, ◌-◌, ◌*◌, ◌/◌, ◌%◌, ◌^◌, ◌<◌, ◌≤◌, inl, inr, Bool, true, false, not, ◌&&◌, ◌||◌, List, [], ◌∷◌, ◌++◌, length, get_or, drop, refl, sym, ◌∙◌, ap, subst, arith, eqb, cond, append-nil, Some, None, nat_lt, if◌then◌else◌}
 use Rattle.std.specs.List.{list_all}
 use Rattle.std.specs.Fmt.{digits, digits_onto, digit_glyph}
-use Rattle.std.proofs.lemmas.Bool.{and_parts, and_from, and_cases, and_left, and_right, le-ltb, ltb-false, cond-false, or_left, or_right, not_from_false, eq-eqb, ne_eqb, lt-ltb, ltb-true, cond-true, cases_lt, cases_eq}
+use Rattle.std.proofs.lemmas.Bool.{cases_Bool, and_parts, and_from, and_cases, and_left, and_right, le-ltb, ltb-false, cond-false, or_left, or_right, not_from_false, eq-eqb, ne_eqb, lt-ltb, ltb-true, cond-true, cases_lt, cases_eq}
 use Rattle.std.proofs.lemmas.Bool.Decides.{nat_tests}
 use Rattle.std.proofs.lemmas.List.{at_drop_more, at_drop_all}
 use Rattle.std.proofs.Math.Nat.{pow-zero, pow-suc, pow-le-pow_right, mul-le-mul_right, div-lt_iff_lt-mul}
@@ -208,6 +208,21 @@ numeral_again base b n lt =
     let s = digits_spell base b n lt in
     let small : nat_lt (value_in base (digits base false n)) (2 ^ 64) ≡ true = lt-ltb _ (2 ^ 64) (subst (λ (m : ℕ). m < 2 ^ 64) (sym s.value) lt) in
     cond-true _ _ _ (and_from _ _ (spells_numeral base n _ s) small) ∙ ap (λ (m : ℕ). Some m) s.value
+
+-- a digit alone is a numeral
+digit_small : (base c : ℕ) → IsBase base → is_digit_of base c ≡ true → nat_lt (0 * base + digit_of c) (2 ^ 64) ≡ true
+digit_small base c b d = lt-ltb _ (2 ^ 64) (subst (λ (n : ℕ). n < 2 ^ 64) (sym (front_zero base (digit_of c))) (below base (digit_of c) b (digit_read base c b d).0))
+  where
+    below : (base n : ℕ) → IsBase base → n < base → n < 2 ^ 64
+    below base n (inl e) lt = omega arith
+    below base n (inr e) lt = omega arith
+
+pub one_digit : (base c : ℕ) → IsBase base → numeral_in base (c ∷ []) ≡ (if is_digit_of base c then Some (digit_of c) else None)
+one_digit base c b =
+    elim (cases_Bool (is_digit_of base c)) [
+      | inl t ↦ cond-true _ _ _ (and_from _ _ (and_from _ _ (and_from _ _ t refl) (or_right _ _ refl)) (digit_small base c b t)) ∙ ap (λ (n : ℕ). Some n) (front_zero base (digit_of c)) ∙ sym (cond-true _ _ _ t)
+      | inr f ↦ cond-false _ _ _ (and_left _ _ (and_left _ _ (and_left _ _ f))) ∙ sym (cond-false _ _ _ f)
+    ]
 
 -- ---- a loop over digits
 

@@ -29,6 +29,10 @@ abbrev pub fields_left : Option (Bor (List ℕ)) → List (List ℕ)
 fields_left None = []
 fields_left (Some text) = fields_in text.now
 
+-- none of the bytes before place k is this one
+abbrev pub IsPast : ℕ → List ℕ → ℕ → Type 0
+IsPast at text k = (k ≤ length text) × ((j : ℕ) → j < k → (get_or text j 0 == at) ≡ false)
+
 -- ---- kinds in the code
 
 abbrev pub range_in : RangeInCode → Range

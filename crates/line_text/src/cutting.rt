@@ -1,15 +1,46 @@
 ghost use Rattle.std.specs.Prelude.{◌≡◌, ◌<◌, ◌==◌, ◌∷◌, [], IfSome, IfNone, length, position};
 ghost use Rattle.std.specs.List.{slice_split};
 ghost use Rattle.line_text.specs.Lines.{lines_in};
-ghost use Rattle.line_text.specs.InnerRows.{Gives, fields_left, next_of};
+ghost use Rattle.line_text.specs.InnerRows.{Gives, IsPast, fields_left, next_of};
 
 use crate::kind::RowFault;
 
-/// The place of the first byte `at`.
+/// The place of the first byte `at` among those from place `from` on.
+fn position_from(text: &[u8], at: u8, from: usize) -> Option<usize>
+    requires { IsPast at text.now from }
+    ensures { result ≡ position (λ c. c == at) text.now }
+{
+    let mut k = from;
+    while k < text.len() {
+        if text[k] == at {
+            return Some(k);
+        }
+        k += 1;
+    }
+    None
+}
+
+/// The place of the first byte `at`. It looks at four bytes a turn.
 fn position_of(text: &[u8], at: u8) -> Option<usize>
     ensures { result ≡ position (λ c. c == at) text.now }
 {
-    text.iter().position(|c| *c == at)
+    let mut k = 0;
+    while text.len() - k >= 4 {
+        if text[k] == at {
+            return Some(k);
+        }
+        if text[k + 1] == at {
+            return Some(k + 1);
+        }
+        if text[k + 2] == at {
+            return Some(k + 2);
+        }
+        if text[k + 3] == at {
+            return Some(k + 3);
+        }
+        k += 4;
+    }
+    position_from(text, at, k)
 }
 
 /// What comes before the first byte `at`, and what comes after it, if there is one.

@@ -38,12 +38,14 @@ fn value(base: u64, digits: &[u8]) -> Option<u64>
 }
 
 /// The number that a numeral spells: some digits, without a leading zero but for 0 itself.
+#[tactic(auto, using(crate::proofs::DigitLemmas::one_digit))]
 fn numeral(base: u64, digits: &[u8]) -> Option<u64>
     requires { IsBase base }
     ensures { result ≡ numeral_in base digits.now }
 {
     match digits {
         [] | [b'0', _, ..] => None,
+        [byte] => digit(base, *byte),
         _ => value(base, digits),
     }
 }

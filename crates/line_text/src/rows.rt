@@ -1,7 +1,7 @@
 ghost use Rattle.std.specs.Prelude.{◌≡◌, ◌≤◌, IfOk, length};
 ghost use Rattle.std.specs.Result.{result_err};
 ghost use Rattle.line_text.specs.Rows.{row_fault};
-ghost use Rattle.line_text.specs.InnerRows.{kinds_in, fields_left, has_shape, FitsPrefix, Gives, kind_in, ok_padded, read_next, read_values, read_row, spell};
+ghost use Rattle.line_text.specs.InnerRows.{kinds_in, fields_left, has_shape, FitsPrefix, Gives, kind_in, ok_from, ok_padded, read_next, read_values, read_row, spell};
 
 use crate::cutting::{next_field, no_field};
 use crate::kind::{FieldKind, RowFault, value};
@@ -33,12 +33,11 @@ fn next_value<'a>(
     Ok((value, rest))
 }
 
-/// The values of some fields, with zeros after them, or the fault of the first bad one.
-fn values(kinds: &[FieldKind], rest: Option<&[u8]>) -> Result<[u64; 4], RowFault>
+/// Writes the values of some fields over the first values, or has the fault of the first bad field.
+fn fill(kinds: &[FieldKind], rest: Option<&[u8]>, values: &mut [u64; 4]) -> Result<(), RowFault>
     requires { length kinds.now ≤ 4 }
-    ensures { result ≡ ok_padded (read_values (kinds_in kinds.now) (fields_left rest.entry)) }
+    ensures { Gives (λ _. values.new) result (ok_from 0 values.old (read_values (kinds_in kinds.now) (fields_left rest.entry))) }
 {
-    let mut values = [0; 4];
     let mut rest = rest;
     for (place, kind) in kinds.iter().enumerate() {
         match next_value(kind, rest) {
@@ -50,20 +49,21 @@ fn values(kinds: &[FieldKind], rest: Option<&[u8]>) -> Result<[u64; 4], RowFault
         }
     }
     if no_field(rest) {
-        Ok(values)
+        Ok(())
     } else {
         Err(RowFault::Fields)
     }
 }
 
 /// The values of a row, or its fault: the shape is looked at again only where a field is bad.
-#[tactic(auto, using(crate::proofs::RowLemmas::row_of_values, crate::proofs::RowLemmas::row_of_fault, crate::proofs::RowLemmas::row_of_bad))]
+#[tactic(auto, using(crate::proofs::RowLemmas::row_of_bad))]
 fn read(kinds: &[FieldKind], rest: Option<&[u8]>) -> Result<[u64; 4], RowFault>
     requires { length kinds.now ≤ 4 }
     ensures { result ≡ ok_padded (read_row (kinds_in kinds.now) (fields_left rest.entry)) }
 {
-    match values(kinds, rest) {
-        Ok(values) => Ok(values),
+    let mut values = [0; 4];
+    match fill(kinds, rest, &mut values) {
+        Ok(()) => Ok(values),
         Err(fault) if fits(kinds, rest) => Err(fault),
         Err(_) => Err(RowFault::Fields),
     }

@@ -2,7 +2,7 @@
 -- next is read from its own fields, and the fault of a line is the one that reading meets. Rows do the work: a word
 -- gives one line of said, and a line one of spoken.
 use Rattle.std.proofs.Common.{◌≡◌, ℕ, ◌+◌, ◌*◌, ◌^◌, ◌<◌, ◌≤◌, Bool, true, false, cond, List, [], ◌∷◌, length, get_or, drop, Option, Some, None, Result, Ok, Err, refl, sym, ap, subst, ◌∙◌, arith, inl, inr}
-use Rattle.std.specs.Prelude.{◌==◌, ◌&&◌, nat_lt, nat_le, codes, unwrap_or}
+use Rattle.std.specs.Prelude.{◌==◌, ◌&&◌, nat_lt, nat_le, codes, unwrap_or, IfSome, IfNone}
 use Rattle.std.specs.Result.{result_err}
 use Rattle.std.specs.List.{find}
 use Rattle.std.specs.Option.{option_or, option_map}
@@ -67,6 +67,15 @@ found field (x ∷ xs) w e =
 word_found : (field : List ℕ) (w : Word) → word_of field ≡ Some w → field ≡ word_text w
 unfolding word_of
 word_found field w e = found field all_words w e
+
+-- what spells a word, if something does, is the word that a field is
+pub word_spells : (field : List ℕ) (o : Option Word) → IfSome o (λ w. field ≡ word_text w) → IfNone o ((w : Word) → field ≡ word_text w → ⊥) → o ≡ word_of field
+word_spells field (Some w) is none = sym (ap word_of is ∙ word_names w)
+word_spells field None is none = none_is (word_of field) (λ w e. none w (word_found field w e))
+  where
+    none_is : (o : Option Word) → ((w : Word) → o ≡ Some w → ⊥) → None ≡ o
+    none_is None h = refl
+    none_is (Some w) h = absurd (h w refl)
 
 -- ---- names and their places
 

@@ -152,6 +152,20 @@ impl Draft {
         Ok(())
     }
 
+    /// Finishes the script that is being read, if there is one.
+    fn close(&mut self) -> Result<(), TextError>
+        ensures taken { OnOk result (data_of self.new ≡ record (data_of self.old) {
+          scripts = closed (data_of self.old).scripts (data_of self.old).opened;
+          opened = None;
+        }) }
+        ensures memory { IfErr result (λ e. e ≡ Memory) }
+    {
+        if let Open::Nothing = self.opened {
+            return Ok(());
+        }
+        self.open(Open::Nothing)
+    }
+
     /// Adds what a line says.
     pub fn take(&mut self, alloc: Global, line: Line) -> Result<(), TextError>
         ensures taken { OnOk result (data_of self.new ≡ taken (data_of self.old) line) }
@@ -165,10 +179,10 @@ impl Draft {
             Line::OneAsk(ask) => self.opened.ask(ask)?,
             Line::OneLook(look) => self.opened.look(look)?,
             Line::OneSlot(slot) => {
-                self.open(Open::Nothing)?;
+                self.close()?;
                 self.schedule.push(slot)?;
             }
-            Line::End => self.open(Open::Nothing)?,
+            Line::End => self.close()?,
         }
         Ok(())
     }

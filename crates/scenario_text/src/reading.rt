@@ -15,9 +15,9 @@ use gpi_values::{Gpi, Source, Space, World};
 use line_text::cut;
 use region_plan::{Kind, Region};
 
-const KINDS: [Kind; 2] = [Kind::Block, Kind::Granule];
+static KINDS: [Kind; 2] = [Kind::Block, Kind::Granule];
 
-const GPIS: [Gpi; 6] = [
+static GPIS: [Gpi; 6] = [
     Gpi::NoAccess,
     Gpi::Secure,
     Gpi::NonSecure,
@@ -26,11 +26,11 @@ const GPIS: [Gpi; 6] = [
     Gpi::Any,
 ];
 
-const SPACES: [Space; 4] = [Space::Secure, Space::NonSecure, Space::Root, Space::Realm];
+static SPACES: [Space; 4] = [Space::Secure, Space::NonSecure, Space::Root, Space::Realm];
 
-const SOURCES: [Source; 2] = [Source::Realm, Source::Secure];
+static SOURCES: [Source; 2] = [Source::Realm, Source::Secure];
 
-const WORLDS: [World; 3] = [World::Realm, World::Secure, World::NonSecure];
+static WORLDS: [World; 3] = [World::Realm, World::Secure, World::NonSecure];
 
 fn monitor_call(verb: u64, pa: u64, world: World) -> Ask
     ensures { result ≡ monitor_call verb pa world }

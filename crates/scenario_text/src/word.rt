@@ -1,6 +1,5 @@
-ghost use Rattle.std.specs.Prelude.{◌≡◌};
-ghost use Rattle.std.specs.Str.{bytes_eq};
-ghost use Rattle.scenario_text.specs.Spelling.{setting_name};
+ghost use Rattle.std.specs.Prelude.{◌≡◌, IfSome, IfNone};
+ghost use Rattle.scenario_text.specs.declared.word.Word.{Word};
 ghost use Rattle.scenario_text.specs.Faults.{word_text, word_of};
 
 /// The settings of the head, in the order of their lines.
@@ -32,71 +31,37 @@ pub enum Word {
     End,
 }
 
-/// The words, those of many lines first.
-const WORDS: [Word; 18] = [
-    Word::Look,
-    Word::Turn,
-    Word::Round,
-    Word::Delegate,
-    Word::Undelegate,
-    Word::Smc,
-    Word::Region,
-    Word::Agent,
-    Word::Cpu,
-    Word::End,
-    Word::Setting(Setting::Gpt),
-    Word::Setting(Setting::Space),
-    Word::Setting(Setting::Max),
-    Word::Setting(Setting::Locks),
-    Word::Setting(Setting::First),
-    Word::Setting(Setting::Ring),
-    Word::Setting(Setting::Tables),
-    Word::Setting(Setting::Base),
-];
-
-fn name_of_setting(setting: Setting) -> &'static str
-    ensures { result.now ≡ setting_name setting }
+/// The word of this text.
+fn word_spelled(field: &[u8]) -> Option<Word>
+    ensures found { IfSome result (λ word. field.now ≡ word_text word) }
+    ensures none { IfNone result ((word : Word) → field.now ≡ word_text word → ⊥) }
 {
-    match setting {
-        Setting::Gpt => "gpt",
-        Setting::Space => "space",
-        Setting::Max => "max",
-        Setting::Locks => "locks",
-        Setting::First => "first",
-        Setting::Ring => "ring",
-        Setting::Tables => "tables",
-        Setting::Base => "base",
+    match field {
+        b"look" => Some(Word::Look),
+        b"turn" => Some(Word::Turn),
+        b"round" => Some(Word::Round),
+        b"delegate" => Some(Word::Delegate),
+        b"undelegate" => Some(Word::Undelegate),
+        b"smc" => Some(Word::Smc),
+        b"region" => Some(Word::Region),
+        b"agent" => Some(Word::Agent),
+        b"cpu" => Some(Word::Cpu),
+        b"end" => Some(Word::End),
+        b"gpt" => Some(Word::Setting(Setting::Gpt)),
+        b"space" => Some(Word::Setting(Setting::Space)),
+        b"max" => Some(Word::Setting(Setting::Max)),
+        b"locks" => Some(Word::Setting(Setting::Locks)),
+        b"first" => Some(Word::Setting(Setting::First)),
+        b"ring" => Some(Word::Setting(Setting::Ring)),
+        b"tables" => Some(Word::Setting(Setting::Tables)),
+        b"base" => Some(Word::Setting(Setting::Base)),
+        _ => None,
     }
-}
-
-fn text_of_word(word: Word) -> &'static str
-    ensures { result.now ≡ word_text word }
-{
-    match word {
-        Word::Setting(setting) => name_of_setting(setting),
-        Word::Region => "region",
-        Word::Agent => "agent",
-        Word::Delegate => "delegate",
-        Word::Undelegate => "undelegate",
-        Word::Smc => "smc",
-        Word::Cpu => "cpu",
-        Word::Look => "look",
-        Word::Turn => "turn",
-        Word::Round => "round",
-        Word::End => "end",
-    }
-}
-
-fn is_spelled(word: Word, field: &[u8]) -> bool
-    ensures { result ≡ bytes_eq field.now (word_text word) }
-{
-    field == text_of_word(word).as_bytes()
 }
 
 /// The word that a field is.
-#[tactic(auto, unfolding(crate::specs::Faults::word_of))]
 pub fn word_of_field(field: &[u8]) -> Option<Word>
     ensures { result ≡ word_of field.now }
 {
-    WORDS.iter().copied().find(|word| is_spelled(*word, field))
+    word_spelled(field)
 }
