@@ -25,7 +25,7 @@ use Rattle.delegate_ops.specs.Deciding.{address_of, granule_place}
 use Rattle.delegate_ops.specs.Changing.{from_of, to_of, changed_word, raised}
 use Rattle.delegate_ops.specs.InnerAgents.{AgentData, kept_changed, goes_to, took_at}
 use Rattle.delegate_ops.proofs.DecidingLemmas.{acts_usable, acts_inside}
-use Rattle.delegate_ops.proofs.FieldEntryLemmas.{with_granules, with_same}
+use Rattle.gpt_descriptors.proofs.FieldEntryLemmas.{with_granules, with_same}
 use Rattle.delegate_ops.proofs.AgentLemmas.{at_stage}
 use Rattle.core_machine.specs.declared.caller.Caller.{Caller}
 use Rattle.core_machine.specs.declared.caller.Caller.TheVariants as caller

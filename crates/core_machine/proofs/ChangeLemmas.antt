@@ -28,9 +28,9 @@ use Rattle.gpt_descriptors.proofs.PackedLemmas.{packed-zero, packed-suc, four_mo
 use Rattle.gpt_descriptors.proofs.PlaceLemmas.{index_within, l1_index_one, l1_index_within}
 use Rattle.table_build.proofs.MeaningLemmas.{table_blocks, one_block}
 use Rattle.delegate_ops.specs.Deciding.{granule_place, is_granules}
-use Rattle.delegate_ops.specs.Changing.{with_field}
-use Rattle.delegate_ops.proofs.FieldLemmas.{with_field_fits}
-use Rattle.delegate_ops.proofs.FieldEntryLemmas.{granules_word_entry, with_granules, with_same, with_other}
+use Rattle.gpt_descriptors.specs.Fields.{with_field}
+use Rattle.gpt_descriptors.proofs.FieldLemmas.{with_field_fits}
+use Rattle.gpt_descriptors.proofs.FieldEntryLemmas.{granules_word_entry, with_granules, with_same, with_other}
 use Rattle.core_machine.specs.InnerTables.{table_gpi, table_word, MeansMap, AreCanonical, CoverEqual}
 use Rattle.core_machine.proofs.ListLemmas.{get_set_same, get_set_other}
 use Rattle.core_machine.proofs.TableLemmas.{granule_back, granule_within}

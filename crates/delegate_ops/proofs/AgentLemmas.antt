@@ -17,9 +17,13 @@ use Rattle.delegate_ops.specs.declared.stage.Change.TheVariants as change
 use Rattle.delegate_ops.specs.declared.stage.Kept.{Kept}
 use Rattle.delegate_ops.specs.declared.stage.Stage.{Stage}
 use Rattle.delegate_ops.specs.declared.stage.Stage.TheVariants as stage
-use Rattle.delegate_ops.specs.Deciding.{idle_answer, looked_answer, is_granules, worn_answer}
+use Rattle.gpt_descriptors.specs.Entries.{l1_entry, word_gpi}
+use Rattle.delegate_ops.specs.declared.places.Places.{Places}
+use Rattle.delegate_ops.specs.Deciding.{idle_answer, refusal_of, is_granules, worn_answer}
 use Rattle.delegate_ops.specs.Changing.{first_change}
-use Rattle.delegate_ops.specs.InnerAgents.{AgentData, IsAgent, IsStage, IsChangeOf, HasRoom, raises_from, HasActs, is_look, task_of, answered_first, idle_answers, goes_to, waits_at, after_answer, looked_stage, read_all, read_stage, raised_stage, kept_read, kept_changed, kept_raised, stage_after, is_held, took_at, took_of, took_under_way}
+use Rattle.delegate_ops.specs.InnerAgents.{AgentData, IsAgent, IsStage, IsChangeOf, HasRoom, raises_from, HasActs, is_look, task_of, answered_first, idle_answers, goes_to, waits_at, after_answer, looked_stage, read_all, read_stage, raised_stage, kept_read, kept_raised, stage_after, is_held, took_at, took_of, took_under_way}
+use Rattle.delegate_ops.specs.InnerTransition.{places_of, stage_by, IsMove}
+use Rattle.delegate_ops.proofs.PlaceLemmas.{same_stage}
 
 -- ---- the answers of tasks without acts
 
@@ -91,12 +95,19 @@ worn_room k fresh =
       ]
     ]
 
--- a task with acts that isn't a look is a transition, which makes its first change and the last one
-pub first_is_change : (g : GeometryData) (t : Task) → idle_answer g t ≡ None → is_look t ≡ false → IsChangeOf t (first_change t)
-first_is_change g (task.Delegate pa source) acts no_look = tt
-first_is_change g (task.Undelegate pa source) acts no_look = tt
-first_is_change g task.Unknown acts no_look = absurd cc
-first_is_change g (task.Look pa space) acts no_look = absurd cc
+-- a task with acts that isn't a look moves its granule
+pub acts_move : (g : GeometryData) (t : Task) → idle_answer g t ≡ None → is_look t ≡ false → IsMove t
+acts_move g (task.Delegate pa source) acts no_look = tt
+acts_move g (task.Undelegate pa source) acts no_look = tt
+acts_move g task.Unknown acts no_look = absurd cc
+acts_move g (task.Look pa space) acts no_look = absurd cc
+
+-- such a task makes its first change and the last one
+pub first_is_change : (t : Task) → IsMove t → IsChangeOf t (first_change t)
+first_is_change (task.Delegate pa source) moves = tt
+first_is_change (task.Undelegate pa source) moves = tt
+first_is_change task.Unknown moves = absurd moves
+first_is_change (task.Look pa space) moves = absurd moves
 
 pub last_is_change : (t : Task) (c : Change) → IsChangeOf t c → IsChangeOf t change.Last
 last_is_change (task.Delegate pa source) c is = tt
@@ -118,18 +129,18 @@ looked_fits : (o : Option Answer) (word : ℕ) (t : Task) → IsStage (looked_st
 looked_fits None word t = tt
 looked_fits (Some refused) word t = tt
 
-read_all_fits : (g : GeometryData) (o : Option Answer) (t : Task) (k : Kept) → idle_answer g t ≡ None → is_look t ≡ false → worn_answer k.generations ≡ o → IsStage (read_all o t k) (Some t)
-read_all_fits g None t k acts no_look worn =
+read_all_fits : (o : Option Answer) (t : Task) (k : Kept) → IsMove t → worn_answer k.generations ≡ o → IsStage (read_all o t k) (Some t)
+read_all_fits None t k moves worn =
     elim (cases_Bool (is_granules k.word)) [
-      | inl granules ↦ rw granules (first_is_change g t acts no_look, room_from k.generations (first_change t) (worn_room k.generations worn))
+      | inl granules ↦ rw granules (first_is_change t moves, room_from k.generations (first_change t) (worn_room k.generations worn))
       | inr contiguous ↦ rw contiguous tt
     ]
-read_all_fits g (Some given) t k acts no_look worn = tt
+read_all_fits (Some given) t k moves worn = tt
 
-read_fits : (g : GeometryData) (t : Task) (z : Size) (k : Kept) → idle_answer g t ≡ None → is_look t ≡ false → IsStage (read_stage t z k) (Some t)
-read_fits g t size.Two k acts no_look = tt
-read_fits g t size.ThirtyTwo k acts no_look = tt
-read_fits g t size.FiveTwelve k acts no_look = read_all_fits g (worn_answer k.generations) t k acts no_look refl
+read_fits : (t : Task) (z : Size) (k : Kept) → IsMove t → IsStage (read_stage t z k) (Some t)
+read_fits t size.Two k moves = tt
+read_fits t size.ThirtyTwo k moves = tt
+read_fits t size.FiveTwelve k moves = read_all_fits (worn_answer k.generations) t k moves refl
 
 raised_fits : (t : Task) (c : Change) (z : Size) (k : Kept) → IsStage (stage.Raising c z k) (Some t) → IsStage (raised_stage c z (kept_raised z k)) (Some t)
 raised_fits t change.First size.Two k fits = (fits.0, record { two = omega (arith, fits.1.two); thirty_two = fits.1.thirty_two; five_twelve = fits.1.five_twelve })
@@ -140,8 +151,16 @@ raised_fits t change.First size.FiveTwelve k fits =
     (last_is_change t change.First fits.0, record { two = fits.1.two; thirty_two = fits.1.thirty_two; five_twelve = omega (arith, fits.1.five_twelve) })
 raised_fits t change.Last size.FiveTwelve k fits = tt
 
-changing_fits : (g : GeometryData) (t : Task) (c : Change) (k : Kept) → IsStage (stage.Changing c k) (Some t) → IsStage (stage.Raising c size.Two (kept_changed g t c k)) (Some t)
-changing_fits g t c k fits = (fits.0, record { two = fits.1.two; thirty_two = fits.1.thirty_two; five_twelve = fits.1.five_twelve })
+-- where a transition goes on its generations have room for what is left to raise
+pub stage_fits : (p : Places) (t : Task) (s : Stage) (old : ℕ) → IsMove t → IsStage s (Some t) → IsStage (stage_by p t s old) (Some t)
+stage_fits p t stage.Locking old moves fits = tt
+stage_fits p t stage.Looking old moves fits = looked_fits (refusal_of t (word_gpi old p.field)) old t
+stage_fits p t (stage.Reading z k) old moves fits = read_fits t z (kept_read z old k) moves
+stage_fits p t (stage.Changing c k) old moves fits =
+    (fits.0, record { two = fits.1.two; thirty_two = fits.1.thirty_two; five_twelve = fits.1.five_twelve })
+stage_fits p t (stage.Raising c z k) old moves fits = raised_fits t c z k fits
+stage_fits p t (stage.Releasing given) old moves fits = tt
+stage_fits p t stage.Stopped old moves fits = tt
 
 -- the agent at this stage
 abbrev pub at_stage : AgentData → Stage → AgentData
@@ -154,19 +173,10 @@ back_at : (s : Stage) (o : Option Task) (t : Task) → o ≡ Some t → IsStage 
 back_at s o t e fits = subst (IsStage s) (sym e) fits
 
 pub after_fits : (a : AgentData) (t : Task) (s : Stage) (old : ℕ) → IsAgent (at_stage a s) → task_of a ≡ Some t → IsStage (stage_after a.geometry t s old) (Some t)
-after_fits a t stage.Locking old is under_way = tt
-after_fits a t stage.Looking old is under_way = looked_fits (looked_answer a.geometry t old) old t
-after_fits a t (stage.Reading z k) old is under_way =
-    read_fits a.geometry t z (kept_read z old k) (subst (HasActs a.geometry) under_way is.acts) (no_look_at (at_stage a (stage.Reading z k)) t is under_way)
-after_fits a t (stage.Changing c k) old is under_way = changing_fits a.geometry t c k (stage_at (stage.Changing c k) (task_of a) t under_way is.stage)
-after_fits a t (stage.Raising c z k) old is under_way = raised_fits t c z k (stage_at (stage.Raising c z k) (task_of a) t under_way is.stage)
-after_fits a t (stage.Releasing given) old is under_way = tt
-after_fits a t stage.Stopped old is under_way = tt
-
--- as the code asks it
-pub next_fits : (a : AgentData) (t : Task) (old : ℕ) (s : Stage) → IsAgent a → task_of a ≡ Some t → s ≡ stage_after a.geometry t a.stage old → IsStage s (task_of a)
-next_fits a t old s is under_way so =
-    subst (λ (x : Stage). IsStage x (task_of a)) (sym so) (back_at (stage_after a.geometry t a.stage old) (task_of a) t under_way (after_fits a t a.stage old is under_way))
+after_fits a t s old is under_way =
+    let moves = acts_move a.geometry t (subst (HasActs a.geometry) under_way is.acts) (no_look_at (at_stage a s) t is under_way) in
+    subst (λ (next : Stage). IsStage next (Some t)) (same_stage a.geometry t s old)
+    (stage_fits (places_of a.geometry t) t s old moves (stage_at s (task_of a) t under_way is.stage))
 
 goes_on_is_agent : (a : AgentData) (t : Task) (s : Stage) (old : ℕ) → IsAgent (at_stage a s) → task_of a ≡ Some t
     → IsAgent (cond (is_held a.geometry t s old) (waits_at (at_stage a s)) (goes_to (at_stage a s) (stage_after a.geometry t s old)))

@@ -32,7 +32,7 @@ use Rattle.history.specs.declared.entry.Entry.{Entry}
 use Rattle.delegate_ops.specs.Script.{CallEvent, Step, plain, lock_bit_of, IsWait, TakesLock, Looks, Reads, Changes, completion, change_entry, Decides, Releases, IsCall, AreCallEvents}
 use Rattle.delegate_ops.specs.InnerScript.{IsReading, reads_before, IsChanging, IsPrefix, HasWalked}
 use Rattle.delegate_ops.specs.InnerEntries.{known_entries, made_at}
-use Rattle.delegate_ops.proofs.AgentLemmas.{first_is_change, no_look_at}
+use Rattle.delegate_ops.proofs.AgentLemmas.{acts_move, first_is_change, no_look_at}
 
 -- ---- the answered calls
 
@@ -187,7 +187,7 @@ read_prefix g c n t size.ThirtyTwo k old events acts no_look reading = record {
   parts = rw reading.parts (append_assoc reading.looking (reads_before g (address_of t) size.ThirtyTwo k.generations) _);
 }
 read_prefix g c n t size.FiveTwelve k old events acts no_look reading =
-    read_all_prefix g c n t (kept_read size.FiveTwelve old k) reading.place (worn_answer (kept_read size.FiveTwelve old k).generations) _ refl reading.looked.there (first_is_change g t acts no_look)
+    read_all_prefix g c n t (kept_read size.FiveTwelve old k) reading.place (worn_answer (kept_read size.FiveTwelve old k).generations) _ refl reading.looked.there (first_is_change t (acts_move g t acts no_look))
     (record {
       looking = reading.looking;
       looked = reading.looked;

@@ -1,11 +1,12 @@
 -- What a transition changes: the GPI of its granule in the L1 word, and the generations around it.
-use Rattle.std.specs.Prelude.{ℕ, ◌+◌, ◌*◌, ◌/◌, ◌%◌, ◌^◌}
+use Rattle.std.specs.Prelude.{ℕ, ◌+◌}
 use Rattle.gpi_values.specs.declared.gpi.Gpi.{Gpi}
 use Rattle.gpi_values.specs.declared.gpi.Gpi.TheVariants as gpi
 use Rattle.gpi_values.specs.Values.{value_of, own_of}
 use Rattle.gpt_descriptors.specs.declared.size.Size.{Size}
-use Rattle.gpt_descriptors.specs.declared.size.Size.TheVariants as size
 use Rattle.gpt_descriptors.specs.declared.size.Generations.{Generations}
+pub use Rattle.gpt_descriptors.specs.Sizes.{with_generation}
+use Rattle.gpt_descriptors.specs.Fields.{with_field}
 use Rattle.gpt_descriptors.specs.Places.{GeometryData}
 use Rattle.history.specs.declared.call.Task.{Task}
 use Rattle.history.specs.declared.call.Task.TheVariants as task
@@ -29,19 +30,9 @@ to_of (task.Delegate pa source) c = own_of source
 to_of (task.Undelegate pa source) change.First = gpi.NoAccess
 to_of t c = gpi.NonSecure
 
--- a granules word with field i, bits 4 i + 3 to 4 i, replaced
-abbrev pub with_field : ℕ → ℕ → ℕ → ℕ
-with_field word i value = (word / 2 ^ (4 * i) / 16 * 16 + value) * 2 ^ (4 * i) + word % 2 ^ (4 * i)
-
 -- the L1 word after a change
 abbrev pub changed_word : GeometryData → Task → Change → ℕ → ℕ
 changed_word g t c word = with_field word (granule_place g (address_of t)) (value_of (to_of t c))
-
--- the generations with one of them replaced
-abbrev pub with_generation : Size → ℕ → Generations → Generations
-with_generation size.Two n k = record { two = n; thirty_two = k.thirty_two; five_twelve = k.five_twelve }
-with_generation size.ThirtyTwo n k = record { two = k.two; thirty_two = n; five_twelve = k.five_twelve }
-with_generation size.FiveTwelve n k = record { two = k.two; thirty_two = k.thirty_two; five_twelve = n }
 
 -- the generations with one of them raised
 abbrev pub raised_at : Size → Generations → Generations

@@ -1,5 +1,5 @@
 -- What a transition is answered, and by what.
-use Rattle.std.specs.Prelude.{◌≡◌, ℕ, ◌/◌, ◌%◌, Bool, true, false, not, ◌||◌, ◌==◌, nat_lt, [], ◌∷◌, Option, Some, None, if◌then◌else◌, MatchOption}
+use Rattle.std.specs.Prelude.{◌≡◌, ℕ, ◌%◌, Bool, true, false, not, ◌||◌, ◌==◌, nat_lt, [], ◌∷◌, Option, Some, None, if◌then◌else◌, MatchOption}
 use Rattle.std.specs.List.{find}
 use Rattle.std.specs.Option.{option_map}
 use Rattle.gpi_values.specs.declared.gpi.Gpi.{Gpi}
@@ -7,10 +7,10 @@ use Rattle.gpi_values.specs.Values.{value_of}
 use Rattle.gpt_descriptors.specs.declared.size.Size.{Size}
 use Rattle.gpt_descriptors.specs.declared.size.Size.TheVariants as size
 use Rattle.gpt_descriptors.specs.declared.size.Generations.{Generations}
-use Rattle.gpt_descriptors.specs.declared.entry.L1Entry.{L1Entry}
-use Rattle.gpt_descriptors.specs.declared.entry.L1Entry.TheVariants as l1
-use Rattle.gpt_descriptors.specs.Sizes.{granule_bytes, space_bytes}
-use Rattle.gpt_descriptors.specs.Entries.{l1_entry, word_gpi}
+use Rattle.gpt_descriptors.specs.Sizes.{granule_bytes, place_in_word, space_bytes}
+pub use Rattle.gpt_descriptors.specs.Sizes.{generation_in}
+use Rattle.gpt_descriptors.specs.Entries.{word_gpi}
+pub use Rattle.gpt_descriptors.specs.Fields.{is_granules}
 use Rattle.gpt_descriptors.specs.Level0.{is_table}
 use Rattle.gpt_descriptors.specs.Places.{GeometryData, l0_word_of}
 use Rattle.history.specs.declared.call.Task.{Task}
@@ -39,7 +39,7 @@ idle_answer g t = if is_unusable g (address_of t) then Some answer.Inval else No
 
 -- the place of an address's granule in its L1 word
 abbrev pub granule_place : GeometryData → ℕ → ℕ
-granule_place g pa = pa / granule_bytes g.setup % 16
+granule_place g pa = place_in_word g.setup pa
 
 -- ---- by the L1 word
 
@@ -57,21 +57,7 @@ refusal_of t (Some found) = if is_needed (needed t) found then None else Some (a
 abbrev pub looked_answer : GeometryData → Task → ℕ → Option Answer
 looked_answer g t word = refusal_of t (word_gpi word (granule_place g (address_of t)))
 
-abbrev pub is_granules_entry : Option L1Entry → Bool
-is_granules_entry (Some (l1.Granules word)) = true
-is_granules_entry (Some (l1.Contig z gpi)) = false
-is_granules_entry None = false
-
--- the word is a granules descriptor
-abbrev pub is_granules : ℕ → Bool
-is_granules word = is_granules_entry (l1_entry word)
-
 -- ---- by the generations
-
-abbrev pub generation_in : Size → Generations → ℕ
-generation_in size.Two k = k.two
-generation_in size.ThirtyTwo k = k.thirty_two
-generation_in size.FiveTwelve k = k.five_twelve
 
 -- what a transition is answered that loads these generations under the lock: the first size whose
 -- generation is too near to the last one

@@ -1,11 +1,10 @@
 ghost use Rattle.std.specs.Prelude.{◌≡◌, ◌<◌, ◌^◌, IsTrue, IsSome, is_some};
-ghost use Rattle.gpt_descriptors.specs.Entries.{l1_entry};
+ghost use Rattle.gpt_descriptors.specs.Entries.{l1_entry, word_gpi};
 ghost use Rattle.history.specs.Legality.{needed};
-ghost use Rattle.history.specs.Counts.{is_worn};
-ghost use Rattle.delegate_ops.specs.Deciding.{address_of, is_unusable, idle_answer, is_needed, looked_answer, is_granules, worn_answer};
+ghost use Rattle.delegate_ops.specs.Deciding.{address_of, is_unusable, idle_answer, is_needed, refusal_of, worn_answer};
 
 use gpi_values::{Gpi, nibble};
-use gpt_descriptors::{GEN_LAST, Generations, Geometry, L1Entry, Size, decode_l1, gpi_at};
+use gpt_descriptors::{Generations, Geometry, Size, is_worn, l1_field};
 use history::{Answer, Task, needed};
 
 /// The byte address of a task.
@@ -53,31 +52,19 @@ fn is_needed(task: Task, found: Gpi) -> bool
     }
 }
 
-/// What a transition is answered that loads this L1 word under the lock, or `None` where it finds the
-/// GPI that it needs.
-pub fn looked_answer(geometry: &Geometry, task: Task, word: u64) -> Option<Answer>
-    requires { IsTrue (is_some (l1_entry word)) }
-    ensures { result ≡ looked_answer geometry.now task word }
+/// What a transition is answered that loads this L1 word under the lock, in which its granule has this field,
+/// or `None` where it finds the GPI that it needs.
+pub fn looked_answer(task: Task, field: u64, word: u64) -> Option<Answer>
+    requires descriptor { IsTrue (is_some (l1_entry word)) }
+    requires field { field < 16 }
+    ensures { result ≡ refusal_of task (word_gpi word field) }
 {
-    let place = address_of(task) / geometry.setup().granule_bytes() % 16;
-    match gpi_at(word, place) {
-        Some(found) if !is_needed(task, found) => Some(Answer::Perm(found)),
-        _ => None,
+    let found = l1_field(word, field);
+    if is_needed(task, found) {
+        None
+    } else {
+        Some(Answer::Perm(found))
     }
-}
-
-/// Whether the word is a granules descriptor.
-pub fn is_granules(word: u64) -> bool
-    ensures { result ≡ is_granules word }
-{
-    matches!(decode_l1(word), Some(L1Entry::Granules(_)))
-}
-
-/// Whether a generation is too near to the last one for a transition, which raises it up to twice.
-fn is_worn(value: u64) -> bool
-    ensures { result ≡ is_worn value }
-{
-    value > GEN_LAST - 2
 }
 
 /// What a transition is answered that loads these generations under the lock, or `None` where none of

@@ -5,14 +5,18 @@
 mod agent;
 mod changing;
 mod deciding;
+mod places;
 mod refused;
 mod script;
 mod stage;
 #[cfg(test)]
 mod tests;
+mod transition;
 
 pub use agent::Agent;
 pub use history::{Answer, Task};
+pub use places::Places;
 pub use refused::refused_calls_change_nothing;
 pub use script::agents_follow_their_script;
 pub use stage::{Change, Kept, Stage};
+pub use transition::Transition;

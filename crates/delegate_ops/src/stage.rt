@@ -1,7 +1,6 @@
 ghost use Rattle.std.specs.Prelude.{◌≡◌};
 ghost use Rattle.delegate_ops.specs.InnerAgents.{kept_read};
 
-use crate::changing::with_generation;
 use gpt_descriptors::{Generations, Size};
 use history::Answer;
 
@@ -42,7 +41,7 @@ impl Kept {
     {
         Kept {
             word: self.word,
-            generations: with_generation(size, value, self.generations),
+            generations: self.generations.with(size, value),
         }
     }
 }

@@ -1,7 +1,15 @@
-use Rattle.std.proofs.Common.{sym, ap, ◌∙◌}
+use Rattle.std.proofs.Common.{subst, ap, ◌∙◌}
 use Rattle.std.specs.Prelude.{is_some}
-use Rattle.delegate_ops.proofs.NextLemmas.{act_next}
+use Rattle.delegate_ops.specs.InnerAgents.{IsAgent, next_of}
+use Rattle.delegate_ops.proofs.NextLemmas.{next_there}
+use Rattle.delegate_ops.proofs.TransitionLemmas.{next_is}
 use Rattle.delegate_ops.proofs.agent.Agent.next.Goals as goal
 
+pub returns-in-Some-clause-next : goal.returns-in-Some-clause-next
+returns-in-Some-clause-next c =
+    let a = c.self.inside in
+    c.next.ensures ∙ next_is a.geometry a.tasks.items a.answers.items a.transition c.in-Some.transition c.self.invariant.0 c.self.invariant.2 c.in-Some.is ∙ ap next_of c.self.view_is
+
 pub returns-in-Some-clause-there : goal.returns-in-Some-clause-there
-returns-in-Some-clause-there c = ap is_some c.act.ensures ∙ act_next c.args.self.now c.in-Some.task (sym c.in-Some.ensures.task) c.in-Some.ensures.acts
+returns-in-Some-clause-there c =
+    ap is_some (returns-in-Some-clause-next c) ∙ next_there c.args.self.now (subst IsAgent c.self.view_is c.self.invariant.0)
