@@ -1,13 +1,22 @@
 -- Agents after an act are agents.
-use Rattle.std.proofs.Common.{◌≡◌, ℕ, zero, suc, ◌+◌, ◌≤◌, ◌<◌, ◌++◌, ◌∷◌, [], List, false, cond, Some, None, Option, length, drop, refl, sym, ap, ◌∙◌, subst, arith, inl, inr, length-append, length-drop}
+use Rattle.std.proofs.Common.{◌≡◌, ℕ, zero, suc, ltb, ◌+◌, ◌≤◌, ◌<◌, ◌++◌, ◌∷◌, [], List, false, cond, Some, None, Option, length, drop, refl, sym, ap, ◌∙◌, subst, arith, inl, inr, length-append, length-drop}
 use Rattle.std.specs.Prelude.{slice_get}
-use Rattle.std.proofs.lemmas.Bool.{cases_Bool, ltb-false}
+use Rattle.std.proofs.lemmas.Bool.{cases_Bool, ltb-false, lt-ltb}
 use Rattle.std.proofs.lemmas.Option.{slice_get_within, get_or_from_slice_get}
 use Rattle.gpt_descriptors.specs.declared.size.Size.{Size}
 use Rattle.gpt_descriptors.specs.declared.size.Size.TheVariants as size
 use Rattle.gpt_descriptors.specs.declared.size.Generations.{Generations}
 use Rattle.gpt_descriptors.specs.Sizes.{generation_last}
-use Rattle.gpt_descriptors.specs.Places.{GeometryData}
+use Rattle.gpi_values.specs.declared.gpi.Gpi.{Gpi}
+use Rattle.gpt_descriptors.specs.declared.entry.L1Entry.{L1Entry}
+use Rattle.gpt_descriptors.specs.declared.entry.L1Entry.TheVariants as l1
+use Rattle.gpt_descriptors.specs.Sizes.{words_of}
+use Rattle.gpt_descriptors.specs.Places.{GeometryData, Level1, place_of, l1_index_of, l1_place_of}
+use Rattle.gpt_descriptors.proofs.CanonicalLemmas.{words_some}
+use Rattle.shared_words.specs.declared.act.Act.{Act}
+use Rattle.shatter.specs.Splitting.{SplittingData, advanced}
+use Rattle.fuse.specs.Merging.{FuseData}
+use Rattle.fuse.specs.Merging as fuse
 use Rattle.history.specs.declared.call.Task.{Task}
 use Rattle.history.specs.declared.call.Task.TheVariants as task
 use Rattle.history.specs.Counts.{is_worn}
@@ -17,13 +26,12 @@ use Rattle.delegate_ops.specs.declared.stage.Change.TheVariants as change
 use Rattle.delegate_ops.specs.declared.stage.Kept.{Kept}
 use Rattle.delegate_ops.specs.declared.stage.Stage.{Stage}
 use Rattle.delegate_ops.specs.declared.stage.Stage.TheVariants as stage
-use Rattle.gpt_descriptors.specs.Entries.{l1_entry, word_gpi}
-use Rattle.delegate_ops.specs.declared.places.Places.{Places}
-use Rattle.delegate_ops.specs.Deciding.{idle_answer, refusal_of, is_granules, worn_answer}
-use Rattle.delegate_ops.specs.Changing.{first_change}
-use Rattle.delegate_ops.specs.InnerAgents.{AgentData, IsAgent, IsStage, IsChangeOf, HasRoom, raises_from, HasActs, is_look, task_of, answered_first, idle_answers, goes_to, waits_at, after_answer, looked_stage, read_all, read_stage, raised_stage, kept_read, kept_raised, stage_after, is_held, took_at, took_of, took_under_way}
-use Rattle.delegate_ops.specs.InnerTransition.{places_of, stage_by, IsMove}
-use Rattle.delegate_ops.proofs.PlaceLemmas.{same_stage}
+use Rattle.gpt_descriptors.specs.Entries.{l1_entry}
+use Rattle.delegate_ops.specs.Deciding.{address_of, idle_answer, looked_answer, worn_answer}
+use Rattle.delegate_ops.specs.Changing.{first_change, splitting_of}
+use Rattle.delegate_ops.specs.InnerAgents.{AgentData, IsAgent, IsStage, IsChangeOf, IsSplittingOf, IsMergingOf, HasRoom, HasRoomFor, raises_from, number_of, HasActs, is_look, task_of, answered_first, idle_answers, goes_to, waits_at, after_answer, looked_stage, loaded_stage, read_all, read_stage, split_stage, merging_stage, merged_stage, raised_stage, kept_read, kept_raised, stage_after, is_held, took_at, took_of, took_under_way}
+use Rattle.delegate_ops.specs.InnerTransition.{IsMove}
+use Rattle.delegate_ops.proofs.NextLemmas.{acts_place, acts_index}
 
 -- ---- the answers of tasks without acts
 
@@ -52,15 +60,15 @@ get_drop (t ∷ tasks) (suc n) i = get_drop tasks n i ∙ ap (slice_get (t ∷ t
 
 -- ---- steps
 
-pub goes_is_agent : (a : AgentData) (s : Stage) → IsAgent a → IsStage s (task_of a) → IsAgent (goes_to a s)
+pub goes_is_agent : (a : AgentData) (s : Stage) → IsAgent a → IsStage a.geometry s (task_of a) → IsAgent (goes_to a s)
 goes_is_agent a s is fits = record { geometry = is.geometry; no_looks = is.no_looks; answered = is.answered; acts = is.acts; stage = fits }
 
 waits_is_agent : (a : AgentData) → IsAgent a → IsAgent (waits_at a)
 waits_is_agent a is = record { geometry = is.geometry; no_looks = is.no_looks; answered = is.answered; acts = is.acts; stage = is.stage }
 
-pub locking_fits : (o : Option Task) → IsStage stage.Locking o
-locking_fits None = tt
-locking_fits (Some t) = tt
+pub locking_fits : (g : GeometryData) (o : Option Task) → IsStage g stage.Locking o
+locking_fits g None = tt
+locking_fits g (Some t) = tt
 
 answer_is_agent : (a : AgentData) (t : Task) (answer : Answer) → IsAgent a → task_of a ≡ Some t → IsAgent (after_answer a answer)
 answer_is_agent a t answer is under_way =
@@ -73,7 +81,7 @@ answer_is_agent a t answer is under_way =
       no_looks = is.no_looks;
       answered = omega (arith, count, within, idle_few a.geometry rest, length-drop (length a.answers + 1) a.tasks);
       acts = subst (HasActs a.geometry) (get_drop a.tasks (length a.answers + 1) (length (idle_answers a.geometry rest)) ∙ ap (slice_get a.tasks) (sym count)) (idle_then_acts a.geometry rest);
-      stage = locking_fits (task_of (after_answer a answer));
+      stage = locking_fits a.geometry (task_of (after_answer a answer));
     }
 
 -- ---- room in the generations
@@ -115,7 +123,7 @@ last_is_change (task.Undelegate pa source) c is = tt
 last_is_change task.Unknown c is = absurd is
 last_is_change (task.Look pa space) c is = absurd is
 
-room_from : (k : Generations) (c : Change) → HasRoom k 2 2 2 → HasRoom k (raises_from c) (raises_from c) (raises_from c)
+room_from : (k : Generations) (c : Change) → HasRoom k 2 2 2 → HasRoomFor (raises_from c) k
 room_from k change.First room = room
 room_from k change.Last room = record { two = omega (arith, room.two); thirty_two = omega (arith, room.thirty_two); five_twelve = omega (arith, room.five_twelve) }
 
@@ -125,76 +133,113 @@ no_look_at a t is under_way =
     subst (λ (x : Task). is_look x ≡ false) (get_or_from_slice_get a.tasks (length a.answers) t t under_way)
     (is.no_looks (length a.answers) t (slice_get_within a.tasks (length a.answers) t under_way))
 
-looked_fits : (o : Option Answer) (word : ℕ) (t : Task) → IsStage (looked_stage o word) (Some t)
-looked_fits None word t = tt
-looked_fits (Some refused) word t = tt
+looked_fits : (g : GeometryData) (o : Option Answer) (word : ℕ) (t : Task) → IsStage g (looked_stage o word) (Some t)
+looked_fits g None word t = tt
+looked_fits g (Some refused) word t = tt
 
-read_all_fits : (o : Option Answer) (t : Task) (k : Kept) → IsMove t → worn_answer k.generations ≡ o → IsStage (read_all o t k) (Some t)
-read_all_fits None t k moves worn =
-    elim (cases_Bool (is_granules k.word)) [
-      | inl granules ↦ rw granules (first_is_change t moves, room_from k.generations (first_change t) (worn_room k.generations worn))
-      | inr contiguous ↦ rw contiguous tt
+-- the splitting of a block has a first store
+split_begins : (g : GeometryData) (t : Task) (z : Size) (v : Gpi) → idle_answer g t ≡ None
+    → IsSplittingOf g (address_of t) z (splitting_of g (address_of t) (number_of (l1_place_of g (address_of t))) z v)
+split_begins g t z v acts =
+    let there = acts_place g t acts in
+    record {
+      place = there.0;
+      there = there.1;
+      first = rw there.1 refl;
+      own = refl;
+      words = refl;
+      two = refl;
+      low = lt-ltb 0 (words_of g.setup z) (words_some g.setup z);
+    }
+
+loaded_fits : (g : GeometryData) (t : Task) (e : Option L1Entry) (k : Kept) → idle_answer g t ≡ None → IsMove t → HasRoom k.generations 2 2 2 → IsStage g (loaded_stage g t e k) (Some t)
+loaded_fits g t (Some (l1.Contig z v)) k acts moves room = (split_begins g t z v acts, first_is_change t moves, room_from k.generations (first_change t) room)
+loaded_fits g t (Some (l1.Granules word)) k acts moves room = (first_is_change t moves, room_from k.generations (first_change t) room)
+loaded_fits g t None k acts moves room = (first_is_change t moves, room_from k.generations (first_change t) room)
+
+read_all_fits : (g : GeometryData) (o : Option Answer) (t : Task) (k : Kept) → idle_answer g t ≡ None → IsMove t → worn_answer k.generations ≡ o → IsStage g (read_all g o t k) (Some t)
+read_all_fits g None t k acts moves worn = loaded_fits g t (l1_entry k.word) k acts moves (worn_room k.generations worn)
+read_all_fits g (Some given) t k acts moves worn = tt
+
+read_fits : (g : GeometryData) (t : Task) (z : Size) (k : Kept) → idle_answer g t ≡ None → IsMove t → IsStage g (read_stage g t z k) (Some t)
+read_fits g t size.Two k acts moves = tt
+read_fits g t size.ThirtyTwo k acts moves = tt
+read_fits g t size.FiveTwelve k acts moves = read_all_fits g (worn_answer k.generations) t k acts moves refl
+
+split_fits : (g : GeometryData) (t : Task) (z : Size) (d : SplittingData) (k : Generations) → IsStage g (stage.Splitting z d k) (Some t) → IsStage g (split_stage t z (advanced d) k) (Some t)
+split_fits g t z d k fits =
+    elim (cases_Bool (ltb (d.made + 1) d.words)) [
+      | inl more ↦ rw more
+          (record { place = fits.0.place; there = fits.0.there; first = fits.0.first; own = fits.0.own; words = fits.0.words; two = fits.0.two; low = more }, fits.1, fits.2)
+      | inr over ↦ rw over (fits.1, fits.2)
     ]
-read_all_fits (Some given) t k moves worn = tt
 
-read_fits : (t : Task) (z : Size) (k : Kept) → IsMove t → IsStage (read_stage t z k) (Some t)
-read_fits t size.Two k moves = tt
-read_fits t size.ThirtyTwo k moves = tt
-read_fits t size.FiveTwelve k moves = read_all_fits (worn_answer k.generations) t k moves refl
+-- merging that isn't over has a next act
+merging_fits : (g : GeometryData) (t : Task) (f : FuseData) (k : Generations) (index : ℕ) (o : Option Act) → l1_index_of g (address_of t) ≡ Some index → f.first ≡ place_of g (Level1 0) → f.own ≡ index
+    → f.two ≡ words_of g.setup size.Two → f.max ≡ g.setup.max → fuse.next_of f ≡ o → IsStage g (merging_stage o f k) (Some t)
+merging_fits g t f k index None there first own two max next = tt
+merging_fits g t f k index (Some a) there first own two max next =
+    record { index = index; there = there; first = first; own = own; two = two; max = max; some = rw next refl }
 
-raised_fits : (t : Task) (c : Change) (z : Size) (k : Kept) → IsStage (stage.Raising c z k) (Some t) → IsStage (raised_stage c z (kept_raised z k)) (Some t)
-raised_fits t change.First size.Two k fits = (fits.0, record { two = omega (arith, fits.1.two); thirty_two = fits.1.thirty_two; five_twelve = fits.1.five_twelve })
-raised_fits t change.Last size.Two k fits = (fits.0, record { two = omega (arith, fits.1.two); thirty_two = fits.1.thirty_two; five_twelve = fits.1.five_twelve })
-raised_fits t change.First size.ThirtyTwo k fits = (fits.0, record { two = fits.1.two; thirty_two = omega (arith, fits.1.thirty_two); five_twelve = fits.1.five_twelve })
-raised_fits t change.Last size.ThirtyTwo k fits = (fits.0, record { two = fits.1.two; thirty_two = omega (arith, fits.1.thirty_two); five_twelve = fits.1.five_twelve })
-raised_fits t change.First size.FiveTwelve k fits =
+begun_fits : (g : GeometryData) (t : Task) (word : ℕ) (k : Generations) → idle_answer g t ≡ None → IsStage g (merged_stage (fuse.fuse_of g (number_of (l1_index_of g (address_of t))) word) k) (Some t)
+begun_fits g t word k acts =
+    let there = acts_index g t acts in
+    rw there.1 (merging_fits g t (fuse.fuse_of g there.0 word) k there.0 _ there.1 refl refl refl refl refl)
+
+merged_fits : (g : GeometryData) (t : Task) (f : FuseData) (old : ℕ) (k : Generations) → IsMergingOf g (address_of t) f → IsStage g (merged_stage (fuse.took_of f old) k) (Some t)
+merged_fits g t f old k is = merging_fits g t (fuse.took_of f old) k is.index _ is.there is.first is.own is.two is.max refl
+
+raised_fits : (g : GeometryData) (t : Task) (c : Change) (z : Size) (k : Kept) → idle_answer g t ≡ None → IsStage g (stage.Raising c z k) (Some t) → IsStage g (raised_stage g t c z (kept_raised z k)) (Some t)
+raised_fits g t change.First size.Two k acts fits = (fits.0, record { two = omega (arith, fits.1.two); thirty_two = fits.1.thirty_two; five_twelve = fits.1.five_twelve })
+raised_fits g t change.Last size.Two k acts fits = (fits.0, record { two = omega (arith, fits.1.two); thirty_two = fits.1.thirty_two; five_twelve = fits.1.five_twelve })
+raised_fits g t change.First size.ThirtyTwo k acts fits = (fits.0, record { two = fits.1.two; thirty_two = omega (arith, fits.1.thirty_two); five_twelve = fits.1.five_twelve })
+raised_fits g t change.Last size.ThirtyTwo k acts fits = (fits.0, record { two = fits.1.two; thirty_two = omega (arith, fits.1.thirty_two); five_twelve = fits.1.five_twelve })
+raised_fits g t change.First size.FiveTwelve k acts fits =
     (last_is_change t change.First fits.0, record { two = fits.1.two; thirty_two = fits.1.thirty_two; five_twelve = omega (arith, fits.1.five_twelve) })
-raised_fits t change.Last size.FiveTwelve k fits = tt
+raised_fits g t change.Last size.FiveTwelve k acts fits = begun_fits g t k.word (kept_raised size.FiveTwelve k).generations acts
 
--- where a transition goes on its generations have room for what is left to raise
-pub stage_fits : (p : Places) (t : Task) (s : Stage) (old : ℕ) → IsMove t → IsStage s (Some t) → IsStage (stage_by p t s old) (Some t)
-stage_fits p t stage.Locking old moves fits = tt
-stage_fits p t stage.Looking old moves fits = looked_fits (refusal_of t (word_gpi old p.field)) old t
-stage_fits p t (stage.Reading z k) old moves fits = read_fits t z (kept_read z old k) moves
-stage_fits p t (stage.Changing c k) old moves fits =
+-- where a transition goes on it has room for what is left to raise, and what it splits and merges is around its word
+pub stage_fits : (g : GeometryData) (t : Task) (s : Stage) (old : ℕ) → idle_answer g t ≡ None → IsMove t → IsStage g s (Some t) → IsStage g (stage_after g t s old) (Some t)
+stage_fits g t stage.Locking old acts moves fits = tt
+stage_fits g t stage.Looking old acts moves fits = looked_fits g (looked_answer g t old) old t
+stage_fits g t (stage.Reading z k) old acts moves fits = read_fits g t z (kept_read z old k) acts moves
+stage_fits g t (stage.Splitting z d k) old acts moves fits = split_fits g t z d k fits
+stage_fits g t (stage.Changing c k) old acts moves fits =
     (fits.0, record { two = fits.1.two; thirty_two = fits.1.thirty_two; five_twelve = fits.1.five_twelve })
-stage_fits p t (stage.Raising c z k) old moves fits = raised_fits t c z k fits
-stage_fits p t (stage.Releasing given) old moves fits = tt
-stage_fits p t stage.Stopped old moves fits = tt
+stage_fits g t (stage.Raising c z k) old acts moves fits = raised_fits g t c z k acts fits
+stage_fits g t (stage.Merging f k) old acts moves fits = merged_fits g t f old k fits
+stage_fits g t (stage.Releasing given) old acts moves fits = tt
 
 -- the agent at this stage
 abbrev pub at_stage : AgentData → Stage → AgentData
 at_stage a s = record { geometry = a.geometry; tasks = a.tasks; answers = a.answers; stage = s; waited = a.waited }
 
-stage_at : (s : Stage) (o : Option Task) (t : Task) → o ≡ Some t → IsStage s o → IsStage s (Some t)
-stage_at s o t e fits = subst (IsStage s) e fits
+stage_at : (g : GeometryData) (s : Stage) (o : Option Task) (t : Task) → o ≡ Some t → IsStage g s o → IsStage g s (Some t)
+stage_at g s o t e fits = subst (IsStage g s) e fits
 
-back_at : (s : Stage) (o : Option Task) (t : Task) → o ≡ Some t → IsStage s (Some t) → IsStage s o
-back_at s o t e fits = subst (IsStage s) (sym e) fits
-
-pub after_fits : (a : AgentData) (t : Task) (s : Stage) (old : ℕ) → IsAgent (at_stage a s) → task_of a ≡ Some t → IsStage (stage_after a.geometry t s old) (Some t)
+pub after_fits : (a : AgentData) (t : Task) (s : Stage) (old : ℕ) → IsAgent (at_stage a s) → task_of a ≡ Some t → IsStage a.geometry (stage_after a.geometry t s old) (task_of a)
 after_fits a t s old is under_way =
-    let moves = acts_move a.geometry t (subst (HasActs a.geometry) under_way is.acts) (no_look_at (at_stage a s) t is under_way) in
-    subst (λ (next : Stage). IsStage next (Some t)) (same_stage a.geometry t s old)
-    (stage_fits (places_of a.geometry t) t s old moves (stage_at s (task_of a) t under_way is.stage))
+    let acts = subst (HasActs a.geometry) under_way is.acts in
+    subst (IsStage a.geometry (stage_after a.geometry t s old)) (sym under_way)
+    (stage_fits a.geometry t s old acts (acts_move a.geometry t acts (no_look_at (at_stage a s) t is under_way)) (stage_at a.geometry s (task_of a) t under_way is.stage))
 
 goes_on_is_agent : (a : AgentData) (t : Task) (s : Stage) (old : ℕ) → IsAgent (at_stage a s) → task_of a ≡ Some t
     → IsAgent (cond (is_held a.geometry t s old) (waits_at (at_stage a s)) (goes_to (at_stage a s) (stage_after a.geometry t s old)))
 goes_on_is_agent a t s old is under_way =
     elim (cases_Bool (is_held a.geometry t s old)) [
       | inl held ↦ rw held (waits_is_agent (at_stage a s) is)
-      | inr free ↦ rw free (goes_is_agent (at_stage a s) (stage_after a.geometry t s old) is (back_at (stage_after a.geometry t s old) (task_of a) t under_way (after_fits a t s old is under_way)))
+      | inr free ↦ rw free (goes_is_agent (at_stage a s) (stage_after a.geometry t s old) is (after_fits a t s old is under_way))
     ]
 
 pub took_at_is_agent : (a : AgentData) (t : Task) (s : Stage) (old : ℕ) → IsAgent (at_stage a s) → task_of a ≡ Some t → IsAgent (took_at (at_stage a s) t s old)
 took_at_is_agent a t stage.Locking old is under_way = goes_on_is_agent a t stage.Locking old is under_way
 took_at_is_agent a t stage.Looking old is under_way = goes_on_is_agent a t stage.Looking old is under_way
 took_at_is_agent a t (stage.Reading z k) old is under_way = goes_on_is_agent a t (stage.Reading z k) old is under_way
+took_at_is_agent a t (stage.Splitting z d k) old is under_way = goes_on_is_agent a t (stage.Splitting z d k) old is under_way
 took_at_is_agent a t (stage.Changing c k) old is under_way = goes_on_is_agent a t (stage.Changing c k) old is under_way
 took_at_is_agent a t (stage.Raising c z k) old is under_way = goes_on_is_agent a t (stage.Raising c z k) old is under_way
-took_at_is_agent a t (stage.Releasing None) old is under_way = goes_on_is_agent a t (stage.Releasing None) old is under_way
-took_at_is_agent a t (stage.Releasing (Some answer)) old is under_way = answer_is_agent (at_stage a (stage.Releasing (Some answer))) t answer is under_way
-took_at_is_agent a t stage.Stopped old is under_way = goes_on_is_agent a t stage.Stopped old is under_way
+took_at_is_agent a t (stage.Merging f k) old is under_way = goes_on_is_agent a t (stage.Merging f k) old is under_way
+took_at_is_agent a t (stage.Releasing answer) old is under_way = answer_is_agent (at_stage a (stage.Releasing answer)) t answer is under_way
 
 took_some_is_agent : (a : AgentData) (o : Option Task) (old : ℕ) → IsAgent a → task_of a ≡ o → IsAgent (took_under_way a o old)
 took_some_is_agent a None old is under_way = is

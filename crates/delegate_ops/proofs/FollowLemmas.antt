@@ -1,5 +1,5 @@
 -- An agent that has come to its stage by some events follows its script by them.
-use Rattle.std.proofs.Common.{◌≡◌, ◌≢◌, ◌⊎◌, ℕ, zero, suc, ◌+◌, ◌≤◌, ◌<◌, ◌++◌, ◌∷◌, [], List, Bool, true, false, Option, Some, None, length, append_assoc, append-nil, refl, sym, ap, ◌∙◌, subst, inl, inr, arith}
+use Rattle.std.proofs.Common.{◌≡◌, ◌≢◌, ℕ, zero, suc, ◌+◌, ◌≤◌, ◌<◌, ◌++◌, ◌∷◌, [], List, Bool, true, false, Option, Some, None, length, map, append_assoc, append-nil, refl, sym, ap, ◌∙◌, subst, inl, inr, arith}
 use Rattle.std.specs.Prelude.{slice_get, MatchOption}
 use Rattle.std.specs.List.{All}
 use Rattle.std.proofs.lemmas.Bool.{cases_Bool}
@@ -13,7 +13,12 @@ use Rattle.gpt_descriptors.specs.Sizes.{generation_last}
 use Rattle.gpt_descriptors.specs.Entries.{l1_word}
 use Rattle.gpt_descriptors.specs.Places.{GeometryData, l1_place_of}
 use Rattle.gpt_descriptors.proofs.MeaningLemmas.{contiguous_again}
+use Rattle.gpt_descriptors.proofs.CanonicalLemmas.{words_some}
 use Rattle.shared_words.specs.declared.act.Act.TheVariants as act
+use Rattle.shared_words.specs.Events.{Event}
+use Rattle.fuse.specs.Merging.{FuseData, around_of, fuse_of}
+use Rattle.fuse.proofs.ScriptLemmas.{steps_are_part}
+use Rattle.std.proofs.lemmas.List.{map-append}
 use Rattle.bit_locks.specs.Locks.{take_act, release_act}
 use Rattle.invalidate.specs.Generations.{gen_load_of}
 use Rattle.history.specs.declared.call.Task.{Task}
@@ -26,16 +31,16 @@ use Rattle.delegate_ops.specs.declared.stage.Kept.{Kept}
 use Rattle.delegate_ops.specs.declared.stage.Stage.{Stage}
 use Rattle.delegate_ops.specs.declared.stage.Stage.TheVariants as stage
 use Rattle.delegate_ops.specs.Deciding.{address_of, idle_answer, looked_answer, worn_answer}
-use Rattle.delegate_ops.specs.Script.{CallEvent, Step, plain, lock_bit_of, entries_of, IsWait, TakesLock, Looks, Reads, reads, Changes, transition_steps, Decides, Releases, IsUnderWay, Follows, HasStopped}
-use Rattle.delegate_ops.specs.InnerAgents.{AgentData, IsAgent, HasActs, task_of, has_stopped, has_ended}
-use Rattle.delegate_ops.specs.InnerScript.{IsReading, reads_before, IsChanging, IsPrefix, HasWalked}
-use Rattle.delegate_ops.proofs.ScriptLemmas.{one_made}
-use Rattle.delegate_ops.proofs.NextLemmas.{acts_place}
+use Rattle.delegate_ops.specs.Script.{CallEvent, Step, plain, lock_bit_of, entries_of, IsWait, TakesLock, Looks, Reads, reads, Changes, transition_steps, Merges, plain_event, Decides, Releases, IsUnderWay, Follows}
+use Rattle.delegate_ops.specs.InnerAgents.{AgentData, IsAgent, HasActs, task_of, has_ended}
+use Rattle.delegate_ops.specs.InnerScript.{IsReading, reads_before, IsChanging, IsMergingAt, IsPrefix, HasWalked}
+use Rattle.delegate_ops.proofs.BlockLemmas.{one_made, done_by}
+use Rattle.delegate_ops.proofs.NextLemmas.{acts_place, acts_index}
 
 -- more events bring the call to where it decides
 pub record GoesOn (g : GeometryData) (c n : ℕ) (t : Task) (events : List CallEvent) : Type 0 where
   pub rest : List CallEvent
-  pub given : Option Answer
+  pub given : Answer
   pub decided : Decides g c n t given (events ++ rest)
 
 not_empty : {A : Type 0} (xs : List A) (x : A) → xs ++ x ∷ [] ≡ [] → ⊥
@@ -50,7 +55,7 @@ under_way_by g c n t events acts goes =
       rest = goes.rest ++ e ∷ [];
       given = goes.given;
       whole = record { deciding = events ++ goes.rest; left = 0; decided = goes.decided; parts = sym (append_assoc events goes.rest (e ∷ [])) };
-      proper = λ none. absurd (not_empty goes.rest e none);
+      proper = not_empty goes.rest e;
     }
 
 -- ---- what may come yet
@@ -73,7 +78,7 @@ locked_goes g c n t place events there locked =
     let given : Answer = answer.Perm gpi.NoAccess in
     record {
       rest = record { act = act.Load place; old = refusing; made = entries_of g c n t given } ∷ [];
-      given = Some given;
+      given = given;
       decided = inl (record { place = place; word = refusing; looked = record { locking = events; locked = locked; there = there; parts = refl }; refused = refusing_answer g t });
     }
 
@@ -125,7 +130,7 @@ reading_goes g c n t z k events reading =
     let worn = some_worn k.generations in
     record {
       rest = loads_from g c n t z k.generations;
-      given = Some worn.0;
+      given = worn.0;
       decided = inr (inl (record {
         place = reading.place;
         word = k.word;
@@ -141,26 +146,45 @@ reading_goes g c n t z k events reading =
     }
 
 -- the steps that are still to come are made
-all_made : (g : GeometryData) (c n : ℕ) (t : Task) (place : ℕ) (to_come : List Step) (last : Generations) (events : List CallEvent) → IsChanging g c n t place to_come last events
-    → (rest : List CallEvent) × IsChanging g c n t place [] last (events ++ rest)
-all_made g c n t place [] last events changing = ([], subst (IsChanging g c n t place [] last) (sym (append-nil events)) changing)
-all_made g c n t place (next ∷ to_come) last events changing =
+all_made : (g : GeometryData) (c n : ℕ) (t : Task) (place : ℕ) (to_come : List Step) (last : Generations) (word : ℕ) (events : List CallEvent) → IsChanging g c n t place to_come last word events
+    → (rest : List CallEvent) × IsChanging g c n t place [] last word (events ++ rest)
+all_made g c n t place [] last word events changing = ([], subst (IsChanging g c n t place [] last word) (sym (append-nil events)) changing)
+all_made g c n t place (next ∷ to_come) last word events changing =
     let e : CallEvent = record { act = next.act; old = 0; made = next.made } in
-    let later = all_made g c n t place to_come last (events ++ e ∷ []) (one_made g c n t place next 0 to_come last events changing) in
-    (e ∷ later.0, subst (IsChanging g c n t place [] last) (append_assoc events (e ∷ []) later.0) later.1)
+    let later = all_made g c n t place to_come last word (events ++ e ∷ []) (one_made g c n t place next 0 to_come last word events changing) in
+    (e ∷ later.0, subst (IsChanging g c n t place [] last word) (append_assoc events (e ∷ []) later.0) later.1)
 
-changing_goes : (g : GeometryData) (c n : ℕ) (t : Task) (place : ℕ) (to_come : List Step) (last : Generations) (events : List CallEvent) → IsChanging g c n t place to_come last events → GoesOn g c n t events
-changing_goes g c n t place to_come last events changing =
-    let made = all_made g c n t place to_come last events changing in
+-- and some merging
+changing_goes : (g : GeometryData) (c n : ℕ) (t : Task) (place : ℕ) (to_come : List Step) (last : Generations) (word : ℕ) (events : List CallEvent) → idle_answer g t ≡ None
+    → IsChanging g c n t place to_come last word events → GoesOn g c n t events
+changing_goes g c n t place to_come last word events acts changing =
+    let made = all_made g c n t place to_come last word events changing in
+    let there = acts_index g t acts in
+    let around = around_of g there.0 word in
+    let part = steps_are_part around [] (fuse_of g there.0 word) (words_some g.setup size.Two) refl in
+    let merging : List CallEvent = map plain_event part.0 in
     record {
-      rest = made.0;
-      given = Some (answer.Done last);
-      decided = inr (inr (record {
-        place = place;
-        kept = made.1.kept;
-        changes = subst (λ (steps : List Step). Changes g t place made.1.kept steps (events ++ made.0)) (sym (append-nil made.1.made) ∙ made.1.whole) made.1.changes;
-        is = ap answer.Done made.1.is;
-      }));
+      rest = made.0 ++ merging;
+      given = answer.Done last;
+      decided = subst (Decides g c n t (answer.Done last)) (append_assoc events made.0 merging)
+          (done_by g c n t place last word (events ++ made.0) merging made.1
+          (record { index = there.0; there = there.1; outcome = part.1; merging = part.0; whole = part.2; parts = refl }));
+    }
+
+merging_goes : (g : GeometryData) (c n : ℕ) (t : Task) (f : FuseData) (last : Generations) (events : List CallEvent) → IsMergingAt g c n t f last events → GoesOn g c n t events
+merging_goes g c n t f last events at =
+    let around = around_of g at.index at.word in
+    let part = steps_are_part around at.merging f (words_some g.setup size.Two) at.walks in
+    let all : List Event = at.merging ++ part.0 in
+    record {
+      rest = map plain_event part.0;
+      given = answer.Done last;
+      decided = subst (Decides g c n t (answer.Done last))
+          (ap (λ (es : List CallEvent). at.changing ++ es) (map-append plain_event at.merging part.0)
+          ∙ sym (append_assoc at.changing (map plain_event at.merging) (map plain_event part.0))
+          ∙ ap (λ (es : List CallEvent). es ++ map plain_event part.0) (sym at.parts))
+          (done_by g c n t at.place last at.word at.changing (map plain_event all) at.changed
+          (record { index = at.index; there = at.there; outcome = part.1; merging = all; whole = part.2; parts = refl }));
     }
 
 -- ---- at each stage
@@ -169,12 +193,12 @@ prefix_under_way : (g : GeometryData) (c n : ℕ) (s : Stage) (t : Task) (events
 prefix_under_way g c n stage.Locking t events acts prefix = under_way_by g c n t events acts (let there = acts_place g t acts in waiting_goes g c n t there.0 events there.1 prefix)
 prefix_under_way g c n stage.Looking t events acts prefix = under_way_by g c n t events acts (let there = acts_place g t acts in locked_goes g c n t there.0 events there.1 prefix)
 prefix_under_way g c n (stage.Reading z k) t events acts prefix = under_way_by g c n t events acts (reading_goes g c n t z k events prefix)
-prefix_under_way g c n (stage.Changing ch k) t events acts prefix = under_way_by g c n t events acts (changing_goes g c n t prefix.0 _ _ events prefix.2)
-prefix_under_way g c n (stage.Raising ch z k) t events acts prefix = under_way_by g c n t events acts (changing_goes g c n t prefix.0 _ _ events prefix.2)
+prefix_under_way g c n (stage.Splitting z d k) t events acts prefix = under_way_by g c n t events acts (changing_goes g c n t prefix.0 _ _ _ events acts prefix.2)
+prefix_under_way g c n (stage.Changing ch k) t events acts prefix = under_way_by g c n t events acts (changing_goes g c n t prefix.0 _ _ _ events acts prefix.2)
+prefix_under_way g c n (stage.Raising ch z k) t events acts prefix = under_way_by g c n t events acts (changing_goes g c n t prefix.0 _ _ _ events acts prefix.2)
+prefix_under_way g c n (stage.Merging f k) t events acts prefix = under_way_by g c n t events acts (merging_goes g c n t f k events prefix)
 prefix_under_way g c n (stage.Releasing given) t events acts prefix =
     under_way_by g c n t events acts (record { rest = []; given = given; decided = subst (Decides g c n t given) (sym (append-nil events)) prefix })
-prefix_under_way g c n stage.Stopped t events acts prefix =
-    record { acts = acts; rest = []; given = None; whole = subst (Releases g c n t None) (sym (append-nil events)) prefix; proper = λ none. refl }
 
 last_under_way : (g : GeometryData) (c n : ℕ) (s : Stage) (o : Option Task) (events : List CallEvent) → HasActs g o → IsPrefix g c n s o events
     → MatchOption o (events ≡ []) (λ t. IsUnderWay g c n t events)
@@ -197,33 +221,9 @@ beyond [] n within none = omega (arith, within)
 beyond (t ∷ tasks) zero within none = absurd cc
 beyond (t ∷ tasks) (suc n) within none = ap suc (beyond tasks n (omega (arith, within)) none)
 
-stopped_prefix : (g : GeometryData) (c n : ℕ) (s : Stage) (t : Task) (events : List CallEvent) → has_stopped s ≡ true → IsPrefix g c n s (Some t) events → Releases g c n t None events
-stopped_prefix g c n stage.Stopped t events stopped prefix = prefix
-stopped_prefix g c n stage.Locking t events stopped prefix = absurd cc
-stopped_prefix g c n stage.Looking t events stopped prefix = absurd cc
-stopped_prefix g c n (stage.Reading z k) t events stopped prefix = absurd cc
-stopped_prefix g c n (stage.Changing ch k) t events stopped prefix = absurd cc
-stopped_prefix g c n (stage.Raising ch z k) t events stopped prefix = absurd cc
-stopped_prefix g c n (stage.Releasing given) t events stopped prefix = absurd cc
+ended_by : (a : AgentData) (o : Option Task) → IsAgent a → task_of a ≡ o → has_ended a ≡ true → length a.answers ≡ length a.tasks
+ended_by a None is under_way ended = beyond a.tasks (length a.answers) is.answered under_way
+ended_by a (Some t) is under_way ended = absurd (let both = rw under_way at ended in cc)
 
-ended_by : (c : ℕ) (a : AgentData) (o : Option Task) (calls last : List CallEvent) → IsAgent a → task_of a ≡ o → HasWalked c a (calls ++ last) → IsPrefix a.geometry c (length a.answers) a.stage o last → has_ended a ≡ true
-    → (length a.answers ≡ length a.tasks) ⊎ ((t : Task) × (task_of a ≡ Some t) × Releases a.geometry c (length a.answers) t None last)
-ended_by c a None calls last is under_way walked prefix ended = inl (beyond a.tasks (length a.answers) is.answered under_way)
-ended_by c a (Some t) calls last is under_way walked prefix ended =
-    inr (t, under_way, stopped_prefix a.geometry c (length a.answers) a.stage t last (rw under_way at ended) prefix)
-
-pub walked_ended : (c : ℕ) (a : AgentData) (events : List CallEvent) → IsAgent a → HasWalked c a events → has_ended a ≡ true
-    → (length a.answers ≡ length a.tasks) ⊎ HasStopped a.geometry c a.tasks a.answers events
-walked_ended c a events is walked ended =
-    elim (ended_by c a (task_of a) walked.calls walked.last is refl (subst (HasWalked c a) walked.parts walked) walked.under_way ended) [
-      | inl all ↦ inl all
-      | inr stopped ↦ inr (record {
-        calls = walked.calls;
-        last = walked.last;
-        task = stopped.0;
-        parts = walked.parts;
-        answered = walked.answered;
-        next = stopped.1;
-        stopped = stopped.2;
-      })
-    ]
+pub walked_ended : (c : ℕ) (a : AgentData) (events : List CallEvent) → IsAgent a → HasWalked c a events → has_ended a ≡ true → length a.answers ≡ length a.tasks
+walked_ended c a events is walked ended = ended_by a (task_of a) is refl ended

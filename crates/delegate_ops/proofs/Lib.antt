@@ -1,5 +1,7 @@
 pub mod DecidingLemmas
 pub mod AgentLemmas
+pub mod StartLemmas
+pub mod BlockLemmas
 pub mod ScriptLemmas
 pub mod QuietLemmas
 pub mod NextLemmas

@@ -11,7 +11,7 @@ use Rattle.history.specs.declared.call.Task.{Task}
 use Rattle.delegate_ops.specs.declared.stage.Stage.{Stage}
 use Rattle.delegate_ops.specs.declared.stage.Stage.TheVariants as stage
 use Rattle.delegate_ops.specs.Deciding.{address_of, is_unusable, idle_answer}
-use Rattle.delegate_ops.specs.InnerAgents.{AgentData, IsAgent, HasActs, task_of, act_at, next_of, has_stopped, has_ended}
+use Rattle.delegate_ops.specs.InnerAgents.{AgentData, IsAgent, IsStage, HasActs, task_of, act_at, next_of, has_ended}
 use Rattle.delegate_ops.proofs.DecidingLemmas.{acts_usable}
 
 -- a usable address has a table
@@ -43,23 +43,24 @@ acts_place g t acts =
     let index = index_there g (address_of t) (usable_table g (address_of t) (acts_usable g t acts)) in
     (place_of g (Level1 index.0), rw index.1 refl)
 
-act_there : (g : GeometryData) (s : Stage) (t : Task) → idle_answer g t ≡ None → is_some (act_at g s t) ≡ not (has_stopped s)
-act_there g stage.Locking t acts = refl
-act_there g stage.Looking t acts = rw (acts_place g t acts).1 refl
-act_there g (stage.Reading z k) t acts = refl
-act_there g (stage.Changing c k) t acts = rw (acts_place g t acts).1 refl
-act_there g (stage.Raising c z k) t acts = refl
-act_there g (stage.Releasing answer) t acts = refl
-act_there g stage.Stopped t acts = refl
+pub acts_index : (g : GeometryData) (t : Task) → idle_answer g t ≡ None → (index : ℕ) × (l1_index_of g (address_of t) ≡ Some index)
+acts_index g t acts = index_there g (address_of t) (usable_table g (address_of t) (acts_usable g t acts))
 
--- the act of the task under way
-pub act_next : (a : AgentData) (t : Task) → task_of a ≡ Some t → idle_answer a.geometry t ≡ None → is_some (act_at a.geometry a.stage t) ≡ not (has_ended a)
-act_next a t under_way acts = rw under_way (act_there a.geometry a.stage t acts)
+-- a task with acts has a next one at each stage
+act_there : (g : GeometryData) (s : Stage) (t : Task) → idle_answer g t ≡ None → IsStage g s (Some t) → is_some (act_at g s t) ≡ true
+act_there g stage.Locking t acts fits = refl
+act_there g stage.Looking t acts fits = rw (acts_place g t acts).1 refl
+act_there g (stage.Reading z k) t acts fits = refl
+act_there g (stage.Splitting z d k) t acts fits = rw fits.0.low refl
+act_there g (stage.Changing c k) t acts fits = rw (acts_place g t acts).1 refl
+act_there g (stage.Raising c z k) t acts fits = refl
+act_there g (stage.Merging f k) t acts fits = fits.some
+act_there g (stage.Releasing answer) t acts fits = refl
 
-next_of_task : (a : AgentData) (o : Option Task) → task_of a ≡ o → HasActs a.geometry o → is_some (next_of a) ≡ not (has_ended a)
-next_of_task a None under_way acts = rw under_way refl
-next_of_task a (Some t) under_way acts = rw under_way (act_there a.geometry a.stage t acts)
+next_of_task : (a : AgentData) (o : Option Task) → task_of a ≡ o → HasActs a.geometry o → IsStage a.geometry a.stage o → is_some (next_of a) ≡ not (has_ended a)
+next_of_task a None under_way acts fits = rw under_way refl
+next_of_task a (Some t) under_way acts fits = rw under_way (act_there a.geometry a.stage t acts fits)
 
 -- a next act is there exactly where the agent hasn't ended
 pub next_there : (a : AgentData) → IsAgent a → is_some (next_of a) ≡ not (has_ended a)
-next_there a is = next_of_task a (task_of a) refl is.acts
+next_there a is = next_of_task a (task_of a) refl is.acts is.stage

@@ -11,8 +11,8 @@ use Rattle.delegate_ops.specs.declared.places.Places.{Places}
 use Rattle.delegate_ops.specs.declared.stage.Stage.{Stage}
 use Rattle.delegate_ops.specs.declared.stage.Stage.TheVariants as stage
 use Rattle.delegate_ops.specs.Deciding.{idle_answer}
-use Rattle.delegate_ops.specs.InnerAgents.{AgentData, HasActs, task_of, act_at, next_of, is_held, stage_after}
-use Rattle.delegate_ops.specs.InnerTransition.{TransitionData, places_of, act_by, next_by, is_held_by, stage_by, IsUnderWay}
+use Rattle.delegate_ops.specs.InnerAgents.{AgentData, HasActs, task_of, act_at, next_of, is_held}
+use Rattle.delegate_ops.specs.InnerTransition.{TransitionData, places_of, act_by, is_held_by}
 use Rattle.delegate_ops.proofs.NextLemmas.{acts_place}
 
 same_load : (g : GeometryData) (t : Task) (z : Size) (k : _) → act_by (places_of g t) (stage.Reading z k) t ≡ act_at g (stage.Reading z k) t
@@ -30,25 +30,18 @@ pub same_act : (g : GeometryData) (t : Task) (s : Stage) → idle_answer g t ≡
 same_act g t stage.Locking acts = refl
 same_act g t stage.Looking acts = rw (acts_place g t acts).1 refl
 same_act g t (stage.Reading z k) acts = same_load g t z k
+same_act g t (stage.Splitting z d k) acts = refl
 same_act g t (stage.Changing c k) acts = rw (acts_place g t acts).1 refl
 same_act g t (stage.Raising c z k) acts = same_raise g t c z k
+same_act g t (stage.Merging f k) acts = refl
 same_act g t (stage.Releasing answer) acts = refl
-same_act g t stage.Stopped acts = refl
 
 pub same_held : (g : GeometryData) (t : Task) (s : Stage) (old : ℕ) → is_held_by (places_of g t) s old ≡ is_held g t s old
 same_held g t stage.Locking old = refl
 same_held g t stage.Looking old = refl
 same_held g t (stage.Reading z k) old = refl
+same_held g t (stage.Splitting z d k) old = refl
 same_held g t (stage.Changing c k) old = refl
 same_held g t (stage.Raising c z k) old = refl
+same_held g t (stage.Merging f k) old = refl
 same_held g t (stage.Releasing answer) old = refl
-same_held g t stage.Stopped old = refl
-
-pub same_stage : (g : GeometryData) (t : Task) (s : Stage) (old : ℕ) → stage_by (places_of g t) t s old ≡ stage_after g t s old
-same_stage g t stage.Locking old = refl
-same_stage g t stage.Looking old = refl
-same_stage g t (stage.Reading z k) old = refl
-same_stage g t (stage.Changing c k) old = refl
-same_stage g t (stage.Raising c z k) old = refl
-same_stage g t (stage.Releasing answer) old = refl
-same_stage g t stage.Stopped old = refl

@@ -49,7 +49,7 @@ reads_quiet g t place word k made events read =
     subst (All (IsQuietEvent g t)) (sym read.parts)
     (All-append (IsQuietEvent g t) read.looking (reads g (address_of t) k made) (looks_quiet g t place word [] read.looking read.looked) (loads_quiet g t k made))
 
-decides_quiet : (g : GeometryData) (c n : ℕ) (t : Task) (given : Answer) (events : List CallEvent) → is_done given ≡ false → Decides g c n t (Some given) events → All (IsQuietEvent g t) events
+decides_quiet : (g : GeometryData) (c n : ℕ) (t : Task) (given : Answer) (events : List CallEvent) → is_done given ≡ false → Decides g c n t given events → All (IsQuietEvent g t) events
 decides_quiet g c n t given events refused (inl by_word) = looks_quiet g t by_word.place by_word.word _ events by_word.looked
 decides_quiet g c n t given events refused (inr (inl worn)) = reads_quiet g t worn.place worn.word worn.generations _ events worn.read
 decides_quiet g c n t given events refused (inr (inr done)) = absurd (let both = rw done.is at refused in cc)
@@ -66,5 +66,5 @@ refused_quiet g c n t given events call refused = call_quiet g c n t (idle_answe
 pub call_unlocks : (g : GeometryData) (c n : ℕ) (t : Task) (given : Answer) (events : List CallEvent) → IsCall g c n t (idle_answer g t) given events → idle_answer g t ≡ None
     → (before : List CallEvent) × (left : ℕ) × (events ≡ before ++ plain (release_act (lock_bit_of g t)) left ∷ [])
 call_unlocks g c n t given events call acts =
-    let released : Releases g c n t (Some given) events = subst (λ (o : Option Answer). IsCall g c n t o given events) acts call in
+    let released : Releases g c n t given events = subst (λ (o : Option Answer). IsCall g c n t o given events) acts call in
     (released.deciding, released.left, released.parts)

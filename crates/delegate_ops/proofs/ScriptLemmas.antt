@@ -27,11 +27,14 @@ use Rattle.delegate_ops.specs.declared.stage.Stage.{Stage}
 use Rattle.delegate_ops.specs.declared.stage.Stage.TheVariants as stage
 use Rattle.delegate_ops.specs.Deciding.{address_of, idle_answer, looked_answer, is_granules, generation_in, worn_answer}
 use Rattle.delegate_ops.specs.Changing.{first_change, changed_word}
-use Rattle.delegate_ops.specs.InnerAgents.{AgentData, IsAgent, IsChangeOf, HasActs, is_look, task_of, answered_first, idle_answers, fresh, act_at, next_of, looked_stage, read_all, read_stage, raised_stage, kept_read, kept_changed, kept_raised, took_at, took_under_way, took_of}
+use Rattle.shatter.specs.Splitting.{advanced}
+use Rattle.fuse.specs.Merging as fuse
+use Rattle.delegate_ops.specs.InnerAgents.{AgentData, IsAgent, HasActs, is_look, task_of, answered_first, idle_answers, fresh, act_at, next_of, looked_stage, read_stage, split_stage, merged_stage, raised_stage, kept_read, kept_changed, kept_raised, took_at, took_under_way, took_of}
 use Rattle.history.specs.declared.entry.Entry.{Entry}
 use Rattle.delegate_ops.specs.Script.{CallEvent, Step, plain, lock_bit_of, IsWait, TakesLock, Looks, Reads, Changes, completion, change_entry, Decides, Releases, IsCall, AreCallEvents}
 use Rattle.delegate_ops.specs.InnerScript.{IsReading, reads_before, IsChanging, IsPrefix, HasWalked}
 use Rattle.delegate_ops.specs.InnerEntries.{known_entries, made_at}
+use Rattle.delegate_ops.proofs.BlockLemmas.{one_made, read_all_prefix, split_prefix, begun_prefix, merged_prefix}
 use Rattle.delegate_ops.proofs.AgentLemmas.{acts_move, first_is_change, no_look_at}
 
 -- ---- the answered calls
@@ -137,41 +140,8 @@ looking g c tasks answers waited t calls last place old here are locked there =
     goes_on g c tasks answers (looked_stage (looked_answer g t old) old) _ t calls last e here are
     (looked_prefix g c (length answers) t old place (looked_answer g t old) (last ++ e ∷ []) refl (record { locking = last; locked = locked; there = there; parts = refl }))
 
--- nothing is made after the loads
-none_made : (g : GeometryData) (t : Task) (k : Kept) (place : ℕ) (events : List CallEvent) → worn_answer k.generations ≡ None → Reads g t place k.word k.generations [] events → is_granules k.word ≡ true
-    → Changes g t place k [] events
-none_made g t k place events fresh reads granules = record {
-  reading = events;
-  changing = [];
-  read = reads;
-  fresh = fresh;
-  granules = granules;
-  steps = refl;
-  parts = sym (append-nil events);
-}
-
--- a transition goes on to its first change
-first_prefix : (g : GeometryData) (c n : ℕ) (t : Task) (k : Kept) (place : ℕ) (events : List CallEvent) → worn_answer k.generations ≡ None → l1_place_of g (address_of t) ≡ Some place
-    → IsChangeOf t (first_change t) → Reads g t place k.word k.generations [] events → is_granules k.word ≡ true → IsPrefix g c n (stage.Changing (first_change t) k) (Some t) events
-first_prefix g c n (task.Delegate pa source) k place events fresh there change reads granules =
-    (place, there, record { kept = k; made = []; changes = none_made g (task.Delegate pa source) k place events fresh reads granules; whole = append-nil _; is = refl })
-first_prefix g c n (task.Undelegate pa source) k place events fresh there change reads granules =
-    (place, there, record { kept = k; made = []; changes = none_made g (task.Undelegate pa source) k place events fresh reads granules; whole = refl; is = refl })
-first_prefix g c n task.Unknown k place events fresh there change reads granules = absurd change
-first_prefix g c n (task.Look pa space) k place events fresh there change reads granules = absurd change
-
--- a generation is loaded
-read_all_prefix : (g : GeometryData) (c n : ℕ) (t : Task) (k : Kept) (place : ℕ) (o : Option Answer) (events : List CallEvent) → worn_answer k.generations ≡ o → l1_place_of g (address_of t) ≡ Some place
-    → IsChangeOf t (first_change t) → Reads g t place k.word k.generations (known_entries g c n t o) events → IsPrefix g c n (read_all o t k) (Some t) events
-read_all_prefix g c n t k place None events fresh there change reads =
-    elim (cases_Bool (is_granules k.word)) [
-      | inl granules ↦ rw granules (first_prefix g c n t k place events fresh there change reads granules)
-      | inr contiguous ↦ rw contiguous (record { place = place; word = k.word; generations = k.generations; read = reads; fresh = fresh; contiguous = contiguous })
-    ]
-read_all_prefix g c n t k place (Some given) events worn there change reads = inr (inl (record { place = place; word = k.word; generations = k.generations; read = reads; worn = worn }))
-
 read_prefix : (g : GeometryData) (c n : ℕ) (t : Task) (z : Size) (k : Kept) (old : ℕ) (events : List CallEvent) → idle_answer g t ≡ None → is_look t ≡ false → IsReading g t z k events
-    → IsPrefix g c n (read_stage t z (kept_read z old k)) (Some t) (events ++ record { act = gen_load_of g z (address_of t); old = old; made = made_at g c n (stage.Reading z k) (Some t) old } ∷ [])
+    → IsPrefix g c n (read_stage g t z (kept_read z old k)) (Some t) (events ++ record { act = gen_load_of g z (address_of t); old = old; made = made_at g c n (stage.Reading z k) (Some t) old } ∷ [])
 read_prefix g c n t size.Two k old events acts no_look reading = record {
   place = reading.place;
   looking = reading.looking;
@@ -195,56 +165,26 @@ read_prefix g c n t size.FiveTwelve k old events acts no_look reading =
       parts = rw reading.parts (append_assoc reading.looking (reads_before g (address_of t) size.FiveTwelve k.generations) _);
     })
 
--- the granule is changed, or a generation raised: the first step to come is made
-pub one_made : (g : GeometryData) (c n : ℕ) (t : Task) (place : ℕ) (next : Step) (old : ℕ) (to_come : List Step) (last : Generations) (events : List CallEvent)
-    → IsChanging g c n t place (next ∷ to_come) last events
-    → IsChanging g c n t place to_come last (events ++ record { act = next.act; old = old; made = next.made } ∷ [])
-one_made g c n t place next old to_come last events changing =
-    let e : CallEvent = record { act = next.act; old = old; made = next.made } in
-    record {
-      kept = changing.kept;
-      made = changing.made ++ next ∷ [];
-      changes = record {
-        reading = changing.changes.reading;
-        changing = changing.changes.changing ++ e ∷ [];
-        read = changing.changes.read;
-        fresh = changing.changes.fresh;
-        granules = changing.changes.granules;
-        steps = map-append (λ (x : CallEvent). record { act = x.act; made = x.made }) changing.changes.changing (e ∷ []) ∙ ap (λ (steps : List Step). steps ++ next ∷ []) changing.changes.steps;
-        parts = ap (λ (es : List CallEvent). es ++ e ∷ []) changing.changes.parts
-            ∙ append_assoc changing.changes.reading changing.changes.changing (e ∷ []);
-      };
-      whole = append_assoc changing.made (next ∷ []) to_come ∙ changing.whole;
-      is = changing.is;
-    }
-
-raised_prefix : (g : GeometryData) (c n : ℕ) (t : Task) (ch : Change) (z : Size) (k : Kept) (old : ℕ) (events : List CallEvent) → IsPrefix g c n (stage.Raising ch z k) (Some t) events
-    → IsPrefix g c n (raised_stage ch z (kept_raised z k)) (Some t)
+raised_prefix : (g : GeometryData) (c n : ℕ) (t : Task) (ch : Change) (z : Size) (k : Kept) (old : ℕ) (events : List CallEvent) → idle_answer g t ≡ None → IsPrefix g c n (stage.Raising ch z k) (Some t) events
+    → IsPrefix g c n (raised_stage g t ch z (kept_raised z k)) (Some t)
     (events ++ record { act = gen_raise_of g z (address_of t) (generation_in z k.generations); old = old; made = made_at g c n (stage.Raising ch z k) (Some t) old } ∷ [])
-raised_prefix g c n t ch size.Two k old events prefix = (prefix.0, prefix.1, one_made g c n t prefix.0 _ old _ _ events prefix.2)
-raised_prefix g c n t ch size.ThirtyTwo k old events prefix = (prefix.0, prefix.1, one_made g c n t prefix.0 _ old _ _ events prefix.2)
-raised_prefix g c n t change.First size.FiveTwelve k old events prefix = (prefix.0, prefix.1, one_made g c n t prefix.0 _ old _ _ events prefix.2)
-raised_prefix g c n t change.Last size.FiveTwelve k old events prefix =
+raised_prefix g c n t ch size.Two k old events acts prefix = (prefix.0, prefix.1, one_made g c n t prefix.0 _ old _ _ _ events prefix.2)
+raised_prefix g c n t ch size.ThirtyTwo k old events acts prefix = (prefix.0, prefix.1, one_made g c n t prefix.0 _ old _ _ _ events prefix.2)
+raised_prefix g c n t change.First size.FiveTwelve k old events acts prefix = (prefix.0, prefix.1, one_made g c n t prefix.0 _ old _ _ _ events prefix.2)
+raised_prefix g c n t change.Last size.FiveTwelve k old events acts prefix =
     let step : Step = record { act = gen_raise_of g size.FiveTwelve (address_of t) k.generations.five_twelve; made = completion g c n t ∷ [] } in
-    let all = one_made g c n t prefix.0 step old [] _ events prefix.2 in
-    inr (inr (record {
-      place = prefix.0;
-      kept = all.kept;
-      changes = subst (λ (steps : List Step). Changes g t prefix.0 all.kept steps (events ++ record { act = step.act; old = old; made = step.made } ∷ []))
-          (sym (append-nil all.made) ∙ all.whole) all.changes;
-      is = ap answer.Done all.is;
-    }))
+    begun_prefix g c n t prefix.0 (kept_raised size.FiveTwelve k) _ acts (one_made g c n t prefix.0 step old [] _ _ events prefix.2)
 
 -- the lock is released, and the call is answered
 answered : (g : GeometryData) (c : ℕ) (tasks : List Task) (answers : List Answer) (waited : Bool) (t : Task) (a : Answer) (calls last : List CallEvent) (old : ℕ)
-    → slice_get tasks (length answers) ≡ Some t → idle_answer g t ≡ None → AreCallEvents g c 0 tasks answers calls → Decides g c (length answers) t (Some a) last
-    → HasWalked c (took_at (agent g tasks answers (stage.Releasing (Some a)) waited) t (stage.Releasing (Some a)) old) ((calls ++ last) ++ plain (release_act (lock_bit_of g t)) old ∷ [])
+    → slice_get tasks (length answers) ≡ Some t → idle_answer g t ≡ None → AreCallEvents g c 0 tasks answers calls → Decides g c (length answers) t a last
+    → HasWalked c (took_at (agent g tasks answers (stage.Releasing a) waited) t (stage.Releasing a) old) ((calls ++ last) ++ plain (release_act (lock_bit_of g t)) old ∷ [])
 answered g c tasks answers waited t a calls last old here acts are decided =
     let e : CallEvent = plain (release_act (lock_bit_of g t)) old in
     let own : List CallEvent = last ++ e ∷ [] in
     let number : length answers ≡ 0 + length answers = omega arith in
-    let released : Releases g c (length answers) t (Some a) own = record { deciding = last; left = old; decided = decided; parts = refl } in
-    let call : IsCall g c (0 + length answers) t (idle_answer g t) a own = subst (λ (o : Option Answer). IsCall g c (0 + length answers) t o a own) (sym acts) (subst (λ (m : ℕ). Releases g c m t (Some a) own) number released) in
+    let released : Releases g c (length answers) t a own = record { deciding = last; left = old; decided = decided; parts = refl } in
+    let call : IsCall g c (0 + length answers) t (idle_answer g t) a own = subst (λ (o : Option Answer). IsCall g c (0 + length answers) t o a own) (sym acts) (subst (λ (m : ℕ). Releases g c m t a own) number released) in
     let one : AreCallEvents g c 0 tasks (answers ++ a ∷ []) (calls ++ own) = calls_and_one g c 0 tasks answers calls own t a here call are in
     let idle = calls_and_idle g c 0 tasks (answers ++ a ∷ []) (calls ++ own) one in
     record {
@@ -270,25 +210,27 @@ walks g c tasks answers stage.Looking waited t calls last next old here acts no_
 walks g c tasks answers (stage.Reading z k) waited t calls last next old here acts no_look are prefix e =
     let same : gen_load_of g z (address_of t) ≡ next = cc in
     let event : CallEvent = record { act = gen_load_of g z (address_of t); old = old; made = made_at g c (length answers) (stage.Reading z k) (Some t) old } in
-    rw (← same) (goes_on g c tasks answers (read_stage t z (kept_read z old k)) _ t calls last event here are (read_prefix g c (length answers) t z k old last acts no_look prefix))
+    rw (← same) (goes_on g c tasks answers (read_stage g t z (kept_read z old k)) _ t calls last event here are (read_prefix g c (length answers) t z k old last acts no_look prefix))
 walks g c tasks answers (stage.Changing ch k) waited t calls last next old here acts no_look are prefix e =
     let store = some_mapped (λ place. act.Store place (changed_word g t ch k.word)) (l1_place_of g (address_of t)) next e in
     let same : store.0 ≡ prefix.0 = let both : Some store.0 ≡ Some prefix.0 = sym store.1 ∙ prefix.1 in cc in
     let event : CallEvent = record { act = act.Store prefix.0 (changed_word g t ch k.word); old = old; made = change_entry g c (length answers) t ch ∷ [] } in
     rw (← store.2, same) (goes_on g c tasks answers (stage.Raising ch size.Two (kept_changed g t ch k)) _ t calls last event here are
-    (prefix.0, prefix.1, one_made g c (length answers) t prefix.0 _ old _ _ last prefix.2))
+    (prefix.0, prefix.1, one_made g c (length answers) t prefix.0 _ old _ _ _ last prefix.2))
 walks g c tasks answers (stage.Raising ch z k) waited t calls last next old here acts no_look are prefix e =
     let same : gen_raise_of g z (address_of t) (generation_in z k.generations) ≡ next = cc in
     let event : CallEvent = record { act = gen_raise_of g z (address_of t) (generation_in z k.generations); old = old; made = made_at g c (length answers) (stage.Raising ch z k) (Some t) old } in
-    rw (← same) (goes_on g c tasks answers (raised_stage ch z (kept_raised z k)) _ t calls last event here are
-    (raised_prefix g c (length answers) t ch z k old last prefix))
-walks g c tasks answers (stage.Releasing (Some a)) waited t calls last next old here acts no_look are prefix e =
+    rw (← same) (goes_on g c tasks answers (raised_stage g t ch z (kept_raised z k)) _ t calls last event here are
+    (raised_prefix g c (length answers) t ch z k old last acts prefix))
+walks g c tasks answers (stage.Releasing a) waited t calls last next old here acts no_look are prefix e =
     let same : release_act (lock_bit_of g t) ≡ next = cc in
     rw (← same) (answered g c tasks answers waited t a calls last old here acts are prefix)
-walks g c tasks answers (stage.Releasing None) waited t calls last next old here acts no_look are prefix e =
-    let same : release_act (lock_bit_of g t) ≡ next = cc in
-    rw (← same) (goes_on g c tasks answers stage.Stopped _ t calls last (plain (release_act (lock_bit_of g t)) old) here are (record { deciding = last; left = old; decided = prefix; parts = refl }))
-walks g c tasks answers stage.Stopped waited t calls last next old here acts no_look are prefix e = absurd cc
+walks g c tasks answers (stage.Splitting z d k) waited t calls last next old here acts no_look are prefix e =
+    goes_on g c tasks answers (split_stage t z (advanced d) k) _ t calls last (plain next old) here are
+    (split_prefix g c (length answers) t z d k next old last (first_is_change t (acts_move g t acts no_look)) e prefix)
+walks g c tasks answers (stage.Merging f k) waited t calls last next old here acts no_look are prefix e =
+    goes_on g c tasks answers (merged_stage (fuse.took_of f old) k) _ t calls last (plain next old) here are
+    (merged_prefix g c (length answers) t f k next old last e prefix)
 
 -- with or without a task under way
 took_walks : (c : ℕ) (a : AgentData) (o : Option Task) (calls last : List CallEvent) (next : Act) (old : ℕ) → IsAgent a → task_of a ≡ o

@@ -1,13 +1,19 @@
 -- What a transition changes: the GPI of its granule in the L1 word, and the generations around it.
-use Rattle.std.specs.Prelude.{ℕ, ◌+◌}
+use Rattle.std.specs.Prelude.{ℕ, ◌+◌, ◌-◌, ◌/◌, ◌%◌, List, [], Option, Some}
 use Rattle.gpi_values.specs.declared.gpi.Gpi.{Gpi}
 use Rattle.gpi_values.specs.declared.gpi.Gpi.TheVariants as gpi
 use Rattle.gpi_values.specs.Values.{value_of, own_of}
 use Rattle.gpt_descriptors.specs.declared.size.Size.{Size}
 use Rattle.gpt_descriptors.specs.declared.size.Generations.{Generations}
 pub use Rattle.gpt_descriptors.specs.Sizes.{with_generation}
-use Rattle.gpt_descriptors.specs.Fields.{with_field}
+use Rattle.gpt_descriptors.specs.declared.size.Size.TheVariants as size
+use Rattle.gpt_descriptors.specs.declared.entry.L1Entry.{L1Entry}
+use Rattle.gpt_descriptors.specs.declared.entry.L1Entry.TheVariants as l1
+use Rattle.gpt_descriptors.specs.Sizes.{word_bytes, words_of}
+use Rattle.gpt_descriptors.specs.Fields.{with_field, granules_of}
 use Rattle.gpt_descriptors.specs.Places.{GeometryData}
+use Rattle.shared_words.specs.declared.act.Act.{Act}
+use Rattle.shatter.specs.Splitting.{SplittingData, started, splitting_stores}
 use Rattle.history.specs.declared.call.Task.{Task}
 use Rattle.history.specs.declared.call.Task.TheVariants as task
 use Rattle.delegate_ops.specs.declared.stage.Change.{Change}
@@ -41,3 +47,24 @@ raised_at z k = with_generation z (generation_in z k + 1) k
 -- all three raised
 abbrev pub raised : Generations → Generations
 raised k = record { two = k.two + 1; thirty_two = k.thirty_two + 1; five_twelve = k.five_twelve + 1 }
+
+-- ---- splitting of a contiguous block, before the change
+
+-- the number of the address's L1 word in its block of a size, counted from the block's first word
+abbrev pub word_in_block : GeometryData → ℕ → Size → ℕ
+word_in_block g pa z = pa / word_bytes g.setup % words_of g.setup z
+
+-- the splitting of the block of this size and GPI around the L1 word of an address, which is at this place
+abbrev pub splitting_of : GeometryData → ℕ → ℕ → Size → Gpi → SplittingData
+splitting_of g pa place z v =
+    started (place - word_in_block g pa z) (word_in_block g pa z) v (words_of g.setup z) (words_of g.setup size.Two)
+
+-- its stores, where the word is contiguous
+abbrev pub split_stores : GeometryData → ℕ → ℕ → Option L1Entry → List Act
+split_stores g pa place (Some (l1.Contig z v)) = splitting_stores (splitting_of g pa place z v)
+split_stores g pa place e = []
+
+-- the word after them
+abbrev pub word_split : ℕ → Option L1Entry → ℕ
+word_split word (Some (l1.Contig z v)) = granules_of v
+word_split word e = word

@@ -1,5 +1,5 @@
 -- An agent as plain data, its next act, and the agent after an act.
-use Rattle.std.specs.Prelude.{◌≡◌, ℕ, ◌+◌, ◌≤◌, Bool, true, false, not, ◌||◌, List, [], ◌∷◌, ◌++◌, length, drop, slice_get, Option, Some, None, ◌==◌, if◌then◌else◌, IsTrue, is_some, option_and_then}
+use Rattle.std.specs.Prelude.{◌≡◌, ℕ, ◌+◌, ◌-◌, ◌≤◌, Bool, true, false, not, nat_lt, List, [], ◌∷◌, ◌++◌, length, drop, slice_get, Option, Some, None, ◌==◌, if◌then◌else◌, IsTrue, IsSome, is_some, option_and_then}
 use Rattle.std.specs.List.{All}
 use Rattle.std.specs.Option.{option_map}
 use Rattle.std.specs.Int.Bits.{bit_and}
@@ -7,8 +7,15 @@ use Rattle.gpt_descriptors.specs.declared.size.Size.{Size}
 use Rattle.gpt_descriptors.specs.declared.size.Size.TheVariants as size
 use Rattle.gpt_descriptors.specs.declared.size.Generations.{Generations}
 use Rattle.gpt_descriptors.specs.Sizes.{generation_last}
+use Rattle.gpt_descriptors.specs.declared.entry.L1Entry.{L1Entry}
+use Rattle.gpt_descriptors.specs.declared.entry.L1Entry.TheVariants as l1
+use Rattle.gpt_descriptors.specs.Sizes.{words_of}
 use Rattle.gpt_descriptors.specs.Entries.{l1_entry}
-use Rattle.gpt_descriptors.specs.Places.{GeometryData, IsGeometry, l1_place_of}
+use Rattle.gpt_descriptors.specs.Fields.{granules_of}
+use Rattle.gpt_descriptors.specs.Places.{GeometryData, IsGeometry, Level1, place_of, l1_index_of, l1_place_of}
+use Rattle.shatter.specs.Splitting.{SplittingData, next_store, advanced}
+use Rattle.fuse.specs.Merging.{FuseData}
+use Rattle.fuse.specs.Merging as fuse
 use Rattle.shared_words.specs.declared.act.Act.{Act}
 use Rattle.shared_words.specs.declared.act.Act.TheVariants as act
 use Rattle.bit_locks.specs.Locks.{take_act, release_act}
@@ -23,8 +30,8 @@ use Rattle.delegate_ops.specs.declared.stage.Kept.{Kept}
 use Rattle.delegate_ops.specs.declared.stage.Stage.{Stage}
 use Rattle.delegate_ops.specs.declared.stage.Stage.TheVariants as stage
 pub use Rattle.delegate_ops.specs.Deciding.{is_look}
-use Rattle.delegate_ops.specs.Deciding.{address_of, idle_answer, looked_answer, is_granules, generation_in, worn_answer}
-use Rattle.delegate_ops.specs.Changing.{first_change, changed_word, with_generation, raised_at}
+use Rattle.delegate_ops.specs.Deciding.{address_of, idle_answer, looked_answer, generation_in, worn_answer}
+use Rattle.delegate_ops.specs.Changing.{first_change, changed_word, with_generation, raised_at, word_in_block, splitting_of}
 use Rattle.delegate_ops.specs.Script.{lock_bit_of}
 
 pub record AgentData : Type 0 where
@@ -56,24 +63,25 @@ fresh g tasks = record { geometry = g; tasks = tasks; answers = idle_answers g t
 
 -- ---- acts
 
+-- a place or an index that is there
+abbrev pub number_of : Option ℕ → ℕ
+number_of None = 0
+number_of (Some n) = n
+
 -- the next act of a task at a stage
 abbrev pub act_at : GeometryData → Stage → Task → Option Act
 act_at g stage.Locking t = Some (take_act (lock_bit_of g t))
 act_at g stage.Looking t = option_map act.Load (l1_place_of g (address_of t))
 act_at g (stage.Reading z k) t = Some (gen_load_of g z (address_of t))
+act_at g (stage.Splitting z d k) t = next_store d
 act_at g (stage.Changing c k) t = option_map (λ place. act.Store place (changed_word g t c k.word)) (l1_place_of g (address_of t))
 act_at g (stage.Raising c z k) t = Some (gen_raise_of g z (address_of t) (generation_in z k.generations))
+act_at g (stage.Merging f k) t = fuse.next_of f
 act_at g (stage.Releasing answer) t = Some (release_act (lock_bit_of g t))
-act_at g stage.Stopped t = None
 
--- the call under way has found a contiguous entry, and makes no further act
-abbrev pub has_stopped : Stage → Bool
-has_stopped stage.Stopped = true
-has_stopped s = false
-
--- each task is answered, or the agent has stopped
+-- each task is answered
 abbrev pub has_ended : AgentData → Bool
-has_ended a = not (is_some (task_of a)) || has_stopped a.stage
+has_ended a = not (is_some (task_of a))
 
 -- the next act of an agent
 abbrev pub next_of : AgentData → Option Act
@@ -100,26 +108,46 @@ waits_at a = record { geometry = a.geometry; tasks = a.tasks; answers = a.answer
 
 -- where a transition goes on that has loaded its L1 word and was refused so, if it was
 abbrev pub looked_stage : Option Answer → ℕ → Stage
-looked_stage (Some refused) word = stage.Releasing (Some refused)
+looked_stage (Some refused) word = stage.Releasing refused
 looked_stage None word = stage.Reading size.Two (record { word = word; generations = record { two = 0; thirty_two = 0; five_twelve = 0 } })
 
 -- where it goes on with all generations loaded, and worn so, if they are
-abbrev pub read_all : Option Answer → Task → Kept → Stage
-read_all (Some worn) t k = stage.Releasing (Some worn)
-read_all None t k = if is_granules k.word then stage.Changing (first_change t) k else stage.Releasing None
+abbrev pub loaded_stage : GeometryData → Task → Option L1Entry → Kept → Stage
+loaded_stage g t (Some (l1.Contig z v)) k =
+    stage.Splitting z (splitting_of g (address_of t) (number_of (l1_place_of g (address_of t))) z v) k.generations
+loaded_stage g t e k = stage.Changing (first_change t) k
 
--- where it goes on with the generation of this size loaded
-abbrev pub read_stage : Task → Size → Kept → Stage
-read_stage t size.Two k = stage.Reading size.ThirtyTwo k
-read_stage t size.ThirtyTwo k = stage.Reading size.FiveTwelve k
-read_stage t size.FiveTwelve k = read_all (worn_answer k.generations) t k
+abbrev pub read_all : GeometryData → Option Answer → Task → Kept → Stage
+read_all g (Some worn) t k = stage.Releasing worn
+read_all g None t k = loaded_stage g t (l1_entry k.word) k
 
--- where it goes on with the generation of this size raised
-abbrev pub raised_stage : Change → Size → Kept → Stage
-raised_stage c size.Two k = stage.Raising c size.ThirtyTwo k
-raised_stage c size.ThirtyTwo k = stage.Raising c size.FiveTwelve k
-raised_stage change.First size.FiveTwelve k = stage.Changing change.Last k
-raised_stage change.Last size.FiveTwelve k = stage.Releasing (Some (answer.Done k.generations))
+-- where it goes on that has loaded the generation of this size
+abbrev pub read_stage : GeometryData → Task → Size → Kept → Stage
+read_stage g t size.Two k = stage.Reading size.ThirtyTwo k
+read_stage g t size.ThirtyTwo k = stage.Reading size.FiveTwelve k
+read_stage g t size.FiveTwelve k = read_all g (worn_answer k.generations) t k
+
+-- where it goes on that has made this much of a splitting
+abbrev pub split_stage : Task → Size → SplittingData → Generations → Stage
+split_stage t z d k =
+    if nat_lt d.made d.words then stage.Splitting z d k else
+    stage.Changing (first_change t) (record { word = granules_of d.gpi; generations = k })
+
+-- where it goes on that has made this much of merging
+abbrev pub merging_stage : Option Act → FuseData → Generations → Stage
+merging_stage (Some next) f k = stage.Merging f k
+merging_stage None f k = stage.Releasing (answer.Done k)
+
+abbrev pub merged_stage : FuseData → Generations → Stage
+merged_stage f k = merging_stage (fuse.next_of f) f k
+
+-- where it goes on that has raised the generation of this size
+abbrev pub raised_stage : GeometryData → Task → Change → Size → Kept → Stage
+raised_stage g t c size.Two k = stage.Raising c size.ThirtyTwo k
+raised_stage g t c size.ThirtyTwo k = stage.Raising c size.FiveTwelve k
+raised_stage g t change.First size.FiveTwelve k = stage.Changing change.Last k
+raised_stage g t change.Last size.FiveTwelve k =
+    merged_stage (fuse.fuse_of g (number_of (l1_index_of g (address_of t))) k.word) k.generations
 
 -- what is kept after an act
 abbrev pub kept_read : Size → ℕ → Kept → Kept
@@ -135,11 +163,12 @@ kept_raised z k = record { word = k.word; generations = raised_at z k.generation
 abbrev pub stage_after : GeometryData → Task → Stage → ℕ → Stage
 stage_after g t stage.Locking old = stage.Looking
 stage_after g t stage.Looking old = looked_stage (looked_answer g t old) old
-stage_after g t (stage.Reading z k) old = read_stage t z (kept_read z old k)
+stage_after g t (stage.Reading z k) old = read_stage g t z (kept_read z old k)
+stage_after g t (stage.Splitting z d k) old = split_stage t z (advanced d) k
 stage_after g t (stage.Changing c k) old = stage.Raising c size.Two (kept_changed g t c k)
-stage_after g t (stage.Raising c z k) old = raised_stage c z (kept_raised z k)
-stage_after g t (stage.Releasing given) old = stage.Stopped
-stage_after g t stage.Stopped old = stage.Stopped
+stage_after g t (stage.Raising c z k) old = raised_stage g t c z (kept_raised z k)
+stage_after g t (stage.Merging f k) old = merged_stage (fuse.took_of f old) k
+stage_after g t (stage.Releasing given) old = stage.Releasing given
 
 -- the act was a lock that wasn't free
 abbrev pub is_held : GeometryData → Task → Stage → ℕ → Bool
@@ -148,7 +177,7 @@ is_held g t s old = false
 
 -- the agent after the act of a task at a stage that answered this word
 abbrev pub took_at : AgentData → Task → Stage → ℕ → AgentData
-took_at a t (stage.Releasing (Some answer)) old = after_answer a answer
+took_at a t (stage.Releasing answer) old = after_answer a answer
 took_at a t s old = if is_held a.geometry t s old then waits_at a else goes_to a (stage_after a.geometry t s old)
 
 abbrev pub took_under_way : AgentData → Option Task → ℕ → AgentData
@@ -192,16 +221,44 @@ abbrev pub raises_after : Change → ℕ
 raises_after change.First = 1
 raises_after change.Last = 0
 
-abbrev pub IsStage : Stage → Option Task → Type 0
-IsStage (stage.Changing c k) (Some t) = IsChangeOf t c × HasRoom k.generations (raises_from c) (raises_from c) (raises_from c)
-IsStage (stage.Raising c size.Two k) (Some t) = IsChangeOf t c × HasRoom k.generations (raises_from c) (raises_from c) (raises_from c)
-IsStage (stage.Raising c size.ThirtyTwo k) (Some t) = IsChangeOf t c × HasRoom k.generations (raises_after c) (raises_from c) (raises_from c)
-IsStage (stage.Raising c size.FiveTwelve k) (Some t) = IsChangeOf t c × HasRoom k.generations (raises_after c) (raises_after c) (raises_from c)
-IsStage s o = Unit {0}
+abbrev pub HasRoomFor : ℕ → Generations → Type 0
+HasRoomFor n k = HasRoom k n n n
+
+-- the next store of splitting is one of the block of a size around the L1 word of an address
+pub record IsSplittingOf (g : GeometryData) (pa : ℕ) (z : Size) (d : SplittingData) : Type 0 where
+  pub place : ℕ
+  pub there : l1_place_of g pa ≡ Some place
+  pub first : d.first ≡ place - word_in_block g pa z
+  pub own : d.own ≡ word_in_block g pa z
+  pub words : d.words ≡ words_of g.setup z
+  pub two : d.two ≡ words_of g.setup size.Two
+  pub low : nat_lt d.made d.words ≡ true
+
+-- the next act of merging is one around the L1 word of an address
+pub record IsMergingOf (g : GeometryData) (pa : ℕ) (f : FuseData) : Type 0 where
+  pub index : ℕ
+  pub there : l1_index_of g pa ≡ Some index
+  pub first : f.first ≡ place_of g (Level1 0)
+  pub own : f.own ≡ index
+  pub two : f.two ≡ words_of g.setup size.Two
+  pub max : f.max ≡ g.setup.max
+  pub some : IsSome (fuse.next_of f)
+
+abbrev pub IsStage : GeometryData → Stage → Option Task → Type 0
+IsStage g (stage.Splitting z d k) (Some t) =
+    IsSplittingOf g (address_of t) z d × IsChangeOf t (first_change t) × HasRoomFor (raises_from (first_change t)) k
+IsStage g (stage.Changing c k) (Some t) = IsChangeOf t c × HasRoomFor (raises_from c) k.generations
+IsStage g (stage.Raising c size.Two k) (Some t) = IsChangeOf t c × HasRoomFor (raises_from c) k.generations
+IsStage g (stage.Raising c size.ThirtyTwo k) (Some t) =
+    IsChangeOf t c × HasRoom k.generations (raises_after c) (raises_from c) (raises_from c)
+IsStage g (stage.Raising c size.FiveTwelve k) (Some t) =
+    IsChangeOf t c × HasRoom k.generations (raises_after c) (raises_after c) (raises_from c)
+IsStage g (stage.Merging f k) (Some t) = IsMergingOf g (address_of t) f
+IsStage g s o = Unit {0}
 
 pub record IsAgent (a : AgentData) : Type 0 where
   pub geometry : IsGeometry a.geometry
   pub no_looks : All (λ t. is_look t ≡ false) a.tasks
   pub answered : length a.answers ≤ length a.tasks
   pub acts : HasActs a.geometry (task_of a)
-  pub stage : IsStage a.stage (task_of a)
+  pub stage : IsStage a.geometry a.stage (task_of a)

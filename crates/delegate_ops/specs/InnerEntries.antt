@@ -5,6 +5,7 @@ use Rattle.gpt_descriptors.specs.Places.{GeometryData}
 use Rattle.history.specs.declared.call.Task.{Task}
 use Rattle.history.specs.declared.call.Task.TheVariants as task
 use Rattle.history.specs.declared.call.Answer.{Answer}
+use Rattle.history.specs.declared.call.Answer.TheVariants as answer
 use Rattle.history.specs.declared.entry.Entry.{Entry}
 use Rattle.delegate_ops.specs.declared.stage.Change.{Change}
 use Rattle.delegate_ops.specs.declared.stage.Change.TheVariants as change
@@ -37,5 +38,6 @@ entries_before g c k t ch = []
 abbrev pub entries_at : GeometryData → ℕ → ℕ → Stage → Option Task → List Entry
 entries_at g c k (stage.Changing ch kept) (Some t) = entries_before g c k t ch
 entries_at g c k (stage.Raising ch z kept) (Some t) = entries_before g c k t ch ++ change_entry g c k t ch ∷ []
-entries_at g c k (stage.Releasing answer) (Some t) = known_entries g c k t answer
+entries_at g c k (stage.Merging f kept) (Some t) = entries_of g c k t (answer.Done kept)
+entries_at g c k (stage.Releasing given) (Some t) = entries_of g c k t given
 entries_at g c k s t = []

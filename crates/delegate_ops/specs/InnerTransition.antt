@@ -7,7 +7,7 @@ use Rattle.gpt_descriptors.specs.declared.size.Size.TheVariants as size
 use Rattle.gpt_descriptors.specs.Sizes.{generation_in}
 use Rattle.gpt_descriptors.specs.Entries.{l1_entry, word_gpi}
 use Rattle.gpt_descriptors.specs.Fields.{with_field}
-use Rattle.gpt_descriptors.specs.Places.{GeometryData, l1_place_of, gen_place_of}
+use Rattle.gpt_descriptors.specs.Places.{GeometryData, IsGeometry, l1_place_of, gen_place_of}
 use Rattle.shared_words.specs.declared.act.Act.{Act}
 use Rattle.shared_words.specs.declared.act.Act.TheVariants as act
 use Rattle.bit_locks.specs.Locks.{take_act, release_act}
@@ -19,10 +19,12 @@ use Rattle.delegate_ops.specs.declared.stage.Change.{Change}
 use Rattle.delegate_ops.specs.declared.stage.Kept.{Kept}
 use Rattle.delegate_ops.specs.declared.stage.Stage.{Stage}
 use Rattle.delegate_ops.specs.declared.stage.Stage.TheVariants as stage
-use Rattle.delegate_ops.specs.Deciding.{address_of, granule_place, refusal_of}
+use Rattle.shatter.specs.Splitting.{next_store}
+use Rattle.fuse.specs.Merging as fuse
+use Rattle.delegate_ops.specs.Deciding.{address_of, granule_place, idle_answer}
 use Rattle.delegate_ops.specs.Changing.{to_of}
 use Rattle.delegate_ops.specs.Script.{lock_bit_of}
-use Rattle.delegate_ops.specs.InnerAgents.{IsStage, looked_stage, read_stage, raised_stage, kept_read, kept_raised}
+use Rattle.delegate_ops.specs.InnerAgents.{IsStage, number_of, stage_after}
 
 -- ---- places
 
@@ -31,15 +33,11 @@ generation_place p size.Two = p.two
 generation_place p size.ThirtyTwo = p.thirty_two
 generation_place p size.FiveTwelve = p.five_twelve
 
-abbrev pub place_or_zero : Option ℕ → ℕ
-place_or_zero None = 0
-place_or_zero (Some place) = place
-
 -- the places of a task
 abbrev pub places_of : GeometryData → Task → Places
 places_of g t = record {
   lock = lock_bit_of g t;
-  word = place_or_zero (l1_place_of g (address_of t));
+  word = number_of (l1_place_of g (address_of t));
   field = granule_place g (address_of t);
   two = gen_place_of g size.Two (address_of t);
   thirty_two = gen_place_of g size.ThirtyTwo (address_of t);
@@ -66,10 +64,11 @@ abbrev pub act_by : Places → Stage → Task → Option Act
 act_by p stage.Locking t = Some (take_act p.lock)
 act_by p stage.Looking t = Some (act.Load p.word)
 act_by p (stage.Reading z k) t = Some (act.Load (generation_place p z))
+act_by p (stage.Splitting z d k) t = next_store d
 act_by p (stage.Changing c k) t = Some (act.Store p.word (word_after p t c k.word))
 act_by p (stage.Raising c z k) t = Some (act.Store (generation_place p z) (generation_in z k.generations + 1))
+act_by p (stage.Merging f k) t = fuse.next_of f
 act_by p (stage.Releasing answer) t = Some (release_act p.lock)
-act_by p stage.Stopped t = None
 
 abbrev pub next_by : TransitionData → Option Act
 next_by d = act_by d.places d.stage d.task
@@ -79,20 +78,9 @@ abbrev pub is_held_by : Places → Stage → ℕ → Bool
 is_held_by p stage.Locking old = not (bit_and old p.lock.mask == 0)
 is_held_by p s old = false
 
--- where it goes on after an act that answered this word, if it neither waits nor ends there
-abbrev pub stage_by : Places → Task → Stage → ℕ → Stage
-stage_by p t stage.Locking old = stage.Looking
-stage_by p t stage.Looking old = looked_stage (refusal_of t (word_gpi old p.field)) old
-stage_by p t (stage.Reading z k) old = read_stage t z (kept_read z old k)
-stage_by p t (stage.Changing c k) old =
-    stage.Raising c size.Two (record { word = word_after p t c k.word; generations = k.generations })
-stage_by p t (stage.Raising c z k) old = raised_stage c z (kept_raised z k)
-stage_by p t (stage.Releasing given) old = stage.Stopped
-stage_by p t stage.Stopped old = stage.Stopped
-
 -- the answer with which its next act, the release of its lock, ends it
 abbrev pub answer_by : Stage → Option Answer
-answer_by (stage.Releasing given) = given
+answer_by (stage.Releasing given) = Some given
 answer_by s = None
 
 abbrev pub waits_by : TransitionData → TransitionData
@@ -101,14 +89,14 @@ waits_by d = record { task = d.task; places = d.places; stage = d.stage; waited 
 abbrev pub goes_by : TransitionData → Stage → TransitionData
 goes_by d s = record { task = d.task; places = d.places; stage = s; waited = false }
 
-abbrev pub unended : TransitionData → ℕ → Option Answer → TransitionData
-unended d old (Some answer) = d
-unended d old None =
-    if is_held_by d.places d.stage old then waits_by d else goes_by d (stage_by d.places d.task d.stage old)
+abbrev pub unended : GeometryData → TransitionData → ℕ → Option Answer → TransitionData
+unended g d old (Some answer) = d
+unended g d old None =
+    if is_held_by d.places d.stage old then waits_by d else goes_by d (stage_after g d.task d.stage old)
 
 -- after an act that answered this word; one that is answered is left as it was
-abbrev pub after_by : TransitionData → ℕ → TransitionData
-after_by d old = unended d old (answer_by d.stage)
+abbrev pub after_by : GeometryData → TransitionData → ℕ → TransitionData
+after_by g d old = unended g d old (answer_by d.stage)
 
 -- ---- which transitions there are
 
@@ -122,11 +110,13 @@ abbrev pub KeepsDescriptor : Stage → Type 0
 KeepsDescriptor (stage.Reading z k) = IsTrue (is_some (l1_entry k.word))
 KeepsDescriptor s = Unit {0}
 
--- its field is one of its word, its task moves a granule, and its generations have room for what is left to raise
-pub record IsTransition (d : TransitionData) : Type 0 where
-  pub field : d.places.field < 16
+-- it is at the places of its task, which moves a granule and has acts
+pub record IsTransition (g : GeometryData) (d : TransitionData) : Type 0 where
+  pub geometry : IsGeometry g
+  pub places : d.places ≡ places_of g d.task
+  pub acts : idle_answer g d.task ≡ None
   pub moves : IsMove d.task
-  pub stage : IsStage d.stage (Some d.task)
+  pub stage : IsStage g d.stage (Some d.task)
   pub kept : KeepsDescriptor d.stage
 
 -- ---- an agent's transition
@@ -139,8 +129,8 @@ abbrev pub waited_in : Option TransitionData → Bool
 waited_in None = false
 waited_in (Some d) = d.waited
 
--- it is that of the task under way, at the places that the geometry gives the task
+-- it is that of the task under way
 abbrev pub IsUnderWay : GeometryData → Option Task → Option TransitionData → Type 0
 IsUnderWay g None None = Unit {0}
-IsUnderWay g (Some t) (Some d) = (d.task ≡ t) × (d.places ≡ places_of g t)
+IsUnderWay g (Some t) (Some d) = (d.task ≡ t) × IsTransition g d
 IsUnderWay g o u = ⊥

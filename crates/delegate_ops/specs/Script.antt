@@ -1,7 +1,6 @@
 -- The script of a transition: its acts in their order, each with the word that it answered and the entries
 -- that it makes in the history (TF-A, gpt_delegate_pas and gpt_undelegate_pas). An agent is shown to follow
--- it. Splitting, cleaning, the barrier and merging are not in it yet: a transition that finds a contiguous
--- entry releases its lock and stops before it changes anything.
+-- it. Cleaning and the barrier are not in it yet.
 use Rattle.std.specs.Prelude.{◌≡◌, ◌≢◌, ◌⊎◌, ℕ, ◌+◌, ◌/◌, false, true, List, [], ◌∷◌, ◌++◌, length, map, slice_get, Option, Some, None, MatchOption}
 use Rattle.std.specs.List.{All}
 use Rattle.std.specs.Int.Bits.{bit_and}
@@ -9,9 +8,14 @@ use Rattle.gpt_descriptors.specs.declared.size.Size.{Size}
 use Rattle.gpt_descriptors.specs.declared.size.Size.TheVariants as size
 use Rattle.gpt_descriptors.specs.declared.size.Generations.{Generations}
 use Rattle.gpt_descriptors.specs.Sizes.{granule_bytes}
-use Rattle.gpt_descriptors.specs.Places.{GeometryData, l1_place_of}
+use Rattle.gpt_descriptors.specs.Entries.{l1_entry}
+use Rattle.gpt_descriptors.specs.Places.{GeometryData, l1_index_of, l1_place_of}
+use Rattle.shared_words.specs.Events.{Event}
 use Rattle.shared_words.specs.declared.act.Act.{Act}
 use Rattle.shared_words.specs.declared.act.Act.TheVariants as act
+use Rattle.fuse.specs.declared.outcome.Fused.{Fused}
+use Rattle.fuse.specs.Merging.{around_of}
+use Rattle.fuse.specs.Script.{IsMerging}
 use Rattle.bit_locks.specs.declared.lock.Bit.{Bit}
 use Rattle.bit_locks.specs.Locks.{lock_number, bit_with, take_act, release_act}
 use Rattle.invalidate.specs.Generations.{gen_load_of, gen_raise_of}
@@ -25,8 +29,8 @@ use Rattle.history.specs.Calls.{call_entries}
 use Rattle.delegate_ops.specs.declared.stage.Change.{Change}
 use Rattle.delegate_ops.specs.declared.stage.Change.TheVariants as change
 use Rattle.delegate_ops.specs.declared.stage.Kept.{Kept}
-use Rattle.delegate_ops.specs.Deciding.{address_of, idle_answer, looked_answer, is_granules, worn_answer}
-use Rattle.delegate_ops.specs.Changing.{from_of, to_of, changed_word, raised}
+use Rattle.delegate_ops.specs.Deciding.{address_of, idle_answer, looked_answer, worn_answer}
+use Rattle.delegate_ops.specs.Changing.{from_of, to_of, changed_word, raised, split_stores, word_split}
 
 -- an event of a call: an act, the word that it answered, and the entries that it makes
 pub record CallEvent : Type 0 where
@@ -48,6 +52,9 @@ plain act old = record { act = act; old = old; made = [] }
 
 abbrev pub plain_step : Act → Step
 plain_step act = record { act = act; made = [] }
+
+abbrev pub plain_event : Event → CallEvent
+plain_event e = plain e.act e.old
 
 -- ---- the parts of a transition
 
@@ -90,8 +97,8 @@ pub record Reads (g : GeometryData) (t : Task) (place word : ℕ) (k : Generatio
   pub needed : looked_answer g t word ≡ None
   pub parts : events ≡ looking ++ reads g (address_of t) k made
 
--- fourth, where none is worn, the granule is changed, and after each change the generations are raised: the
--- third raise completes the change
+-- fourth, where none is worn, a contiguous block is split; fifth, the granule is changed, and after each change
+-- the generations are raised: the third raise completes the change
 abbrev pub change_entry : GeometryData → ℕ → ℕ → Task → Change → Entry
 change_entry g c n t ch = entry.Changed c n (granule_of_task g t) (from_of t ch) (to_of t ch)
 
@@ -120,6 +127,22 @@ transition_steps g c n (task.Undelegate pa source) place k =
     ++ change_and_raises g c n (task.Undelegate pa source) place change.Last (kept_after g (task.Undelegate pa source) change.First k)
 transition_steps g c n t place k = []
 
+-- what is kept after the splitting, and all steps from it to the last raise
+abbrev pub kept_split : Kept → Kept
+kept_split k = record { word = word_split k.word (l1_entry k.word); generations = k.generations }
+
+abbrev pub all_steps : GeometryData → ℕ → ℕ → Task → ℕ → Kept → List Step
+all_steps g c n t place k =
+    map plain_step (split_stores g (address_of t) place (l1_entry k.word))
+    ++ transition_steps g c n t place (kept_split k)
+
+-- the L1 word after the last change
+abbrev pub last_word : GeometryData → Task → ℕ → ℕ
+last_word g (task.Undelegate pa source) word =
+    changed_word g (task.Undelegate pa source) change.Last
+    (changed_word g (task.Undelegate pa source) change.First word)
+last_word g t word = changed_word g t change.Last word
+
 -- the generations last stored, which the call is answered
 abbrev pub last_generations : Task → Generations → Generations
 last_generations (task.Undelegate pa source) k = raised (raised k)
@@ -146,38 +169,41 @@ pub record IsWornOut (g : GeometryData) (c n : ℕ) (t : Task) (given : Answer) 
   pub read : Reads g t place word generations (entries_of g c n t given) events
   pub worn : worn_answer generations ≡ Some given
 
--- it has found a contiguous entry
-pub record Stops (g : GeometryData) (t : Task) (events : List CallEvent) : Type 0 where
-  pub place : ℕ
-  pub word : ℕ
-  pub generations : Generations
-  pub read : Reads g t place word generations [] events
-  pub fresh : worn_answer generations ≡ None
-  pub contiguous : is_granules word ≡ false
-
 -- it goes on to change its granule, and has made these steps after its loads
 pub record Changes (g : GeometryData) (t : Task) (place : ℕ) (k : Kept) (made : List Step) (events : List CallEvent) : Type 0 where
   pub reading : List CallEvent
   pub changing : List CallEvent
   pub read : Reads g t place k.word k.generations [] reading
   pub fresh : worn_answer k.generations ≡ None
-  pub granules : is_granules k.word ≡ true
   pub steps : steps_in changing ≡ made
   pub parts : events ≡ reading ++ changing
+
+-- sixth, what is around its word is merged, by the loads and stores of a whole merging
+pub record Merges (g : GeometryData) (t : Task) (word : ℕ) (events : List CallEvent) : Type 0 where
+  pub index : ℕ
+  pub there : l1_index_of g (address_of t) ≡ Some index
+  pub outcome : Fused
+  pub merging : List Event
+  pub whole : IsMerging (around_of g index word) outcome merging
+  pub parts : events ≡ map plain_event merging
 
 -- it is done
 pub record IsDone (g : GeometryData) (c n : ℕ) (t : Task) (given : Answer) (events : List CallEvent) : Type 0 where
   pub place : ℕ
   pub kept : Kept
-  pub changes : Changes g t place kept (transition_steps g c n t place kept) events
+  pub changing : List CallEvent
+  pub merging : List CallEvent
+  pub changes : Changes g t place kept (all_steps g c n t place kept) changing
+  pub merges : Merges g t (last_word g t (kept_split kept).word) merging
+  pub parts : events ≡ changing ++ merging
   pub is : given ≡ answer.Done (last_generations t kept.generations)
 
-abbrev pub Decides : GeometryData → ℕ → ℕ → Task → Option Answer → List CallEvent → Type 0
-Decides g c n t None events = Stops g t events
-Decides g c n t (Some given) events = IsRefused g c n t given events ⊎ (IsWornOut g c n t given events ⊎ IsDone g c n t given events)
+abbrev pub Decides : GeometryData → ℕ → ℕ → Task → Answer → List CallEvent → Type 0
+Decides g c n t given events =
+    IsRefused g c n t given events ⊎ (IsWornOut g c n t given events ⊎ IsDone g c n t given events)
 
 -- last, the lock is released
-pub record Releases (g : GeometryData) (c n : ℕ) (t : Task) (given : Option Answer) (events : List CallEvent) : Type 0 where
+pub record Releases (g : GeometryData) (c n : ℕ) (t : Task) (given : Answer) (events : List CallEvent) : Type 0 where
   pub deciding : List CallEvent
   pub left : ℕ
   pub decided : Decides g c n t given deciding
@@ -188,7 +214,7 @@ pub record Releases (g : GeometryData) (c n : ℕ) (t : Task) (given : Option An
 -- the events of call n of caller c with this answer: none where its task has no acts
 abbrev pub IsCall : GeometryData → ℕ → ℕ → Task → Option Answer → Answer → List CallEvent → Type 0
 IsCall g c n t (Some idle) given events = (idle ≡ given) × (events ≡ [])
-IsCall g c n t None given events = Releases g c n t (Some given) events
+IsCall g c n t None given events = Releases g c n t given events
 
 -- the events of the answered calls, from call n on, in their order
 abbrev pub AreCallEvents : GeometryData → ℕ → ℕ → List Task → List Answer → List CallEvent → Type 0
@@ -198,14 +224,13 @@ AreCallEvents g c n (t ∷ tasks) (a ∷ answers) events =
     (own : List CallEvent) × (rest : List CallEvent) × (events ≡ own ++ rest)
     × IsCall g c n t (idle_answer g t) a own × AreCallEvents g c (n + 1) tasks answers rest
 
--- The call under way has acts, and its events are a prefix of those that the script allows it: a proper
--- one, or it has found a contiguous entry and stopped.
+-- The call under way has acts, and its events are a proper prefix of those that the script allows it.
 pub record IsUnderWay (g : GeometryData) (c n : ℕ) (t : Task) (events : List CallEvent) : Type 0 where
   pub acts : idle_answer g t ≡ None
   pub rest : List CallEvent
-  pub given : Option Answer
+  pub given : Answer
   pub whole : Releases g c n t given (events ++ rest)
-  pub proper : rest ≡ [] → given ≡ None
+  pub proper : rest ≢ []
 
 -- An agent that is caller c follows its script: its events are those of its answered calls, whole and in
 -- their order, and then those of the next call, if there is one.
@@ -215,13 +240,3 @@ pub record Follows (g : GeometryData) (c : ℕ) (tasks : List Task) (answers : L
   pub parts : events ≡ calls ++ last
   pub answered : AreCallEvents g c 0 tasks answers calls
   pub under_way : MatchOption (slice_get tasks (length answers)) (last ≡ []) (λ t. IsUnderWay g c (length answers) t last)
-
--- Its next call has found a contiguous entry, and it makes no further act.
-pub record HasStopped (g : GeometryData) (c : ℕ) (tasks : List Task) (answers : List Answer) (events : List CallEvent) : Type 0 where
-  pub calls : List CallEvent
-  pub last : List CallEvent
-  pub task : Task
-  pub parts : events ≡ calls ++ last
-  pub answered : AreCallEvents g c 0 tasks answers calls
-  pub next : slice_get tasks (length answers) ≡ Some task
-  pub stopped : Releases g c (length answers) task None last

@@ -2,7 +2,7 @@ ghost use Rattle.std.specs.Prelude.{◌≡◌, ◌-◌, ◌≤◌, ◌++◌, IfO
 ghost use Rattle.std.specs.List.{All};
 ghost use Rattle.std.specs.Option.{option_map};
 ghost use Rattle.delegate_ops.specs.InnerAgents.{is_look, task_of, fresh, idle_answers, has_ended, next_of, after_answer, took_of, HasActs, IsReadable};
-ghost use Rattle.delegate_ops.specs.InnerTransition.{begun};
+ghost use Rattle.delegate_ops.specs.InnerTransition.{begun, IsUnderWay};
 
 use crate::deciding::idle_answer;
 use crate::transition::Transition;
@@ -67,7 +67,8 @@ fn answer_idle(geometry: &Geometry, tasks: &[Task], answers: &mut Vec<Answer>)
 fn begin(geometry: &Geometry, tasks: &[Task], answers: &[Answer]) -> Option<Transition>
     requires acts { HasActs geometry.now (slice_get tasks.now (length answers.now)) }
     requires no_looks { All (λ t. is_look t ≡ false) tasks.now }
-    ensures { result ≡ option_map (begun geometry.now) (slice_get tasks.now (length answers.now)) }
+    ensures value { result ≡ option_map (begun geometry.now) (slice_get tasks.now (length answers.now)) }
+    ensures under_way { IsUnderWay geometry.now (slice_get tasks.now (length answers.now)) result }
 {
     match tasks.get(answers.len()) {
         Some(task) => Some(Transition::new(geometry, *task)),
@@ -92,7 +93,7 @@ impl Agent {
         })
     }
 
-    /// The next act, or `None` exactly where every task is answered or the agent has stopped.
+    /// The next act, or `None` exactly where every task is answered.
     pub fn next(&self) -> Option<Act>
         ensures next { result ≡ next_of self.now }
         ensures there { is_some result ≡ not (has_ended self.now) }
@@ -120,7 +121,7 @@ impl Agent {
         ensures { self.new ≡ took_of self.old old }
     {
         if let Some(transition) = &mut self.transition {
-            if let Some(answer) = transition.took(old) {
+            if let Some(answer) = transition.took(&self.geometry, old) {
                 self.end(answer);
             }
         }

@@ -3,6 +3,7 @@
 #![tactic(auto)]
 
 mod agent;
+mod blocks;
 mod changing;
 mod deciding;
 mod places;

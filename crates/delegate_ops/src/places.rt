@@ -1,4 +1,5 @@
 ghost use Rattle.std.specs.Prelude.{◌≡◌, ◌<◌, None};
+ghost use Rattle.gpt_descriptors.specs.Places.{IsGeometry};
 ghost use Rattle.delegate_ops.specs.Deciding.{idle_answer};
 ghost use Rattle.delegate_ops.specs.InnerTransition.{places_of, generation_place};
 
@@ -29,12 +30,14 @@ impl Places {
         requires { idle_answer geometry.now task ≡ None }
         ensures places { result ≡ places_of geometry.now task }
         ensures field { result.field < 16 }
+        ensures known { IsGeometry geometry.now }
     {
         let pa = address_of(task);
+        let setup = geometry.setup();
         Places {
             lock: lock_of(geometry, pa),
             word: geometry.l1_place(pa).unwrap_or(0),
-            field: geometry.place_in_word(pa),
+            field: pa / setup.granule_bytes() % 16,
             two: geometry.gen_place(Size::Two, pa),
             thirty_two: geometry.gen_place(Size::ThirtyTwo, pa),
             five_twelve: geometry.gen_place(Size::FiveTwelve, pa),

@@ -1,8 +1,10 @@
 ghost use Rattle.std.specs.Prelude.{◌≡◌};
 ghost use Rattle.delegate_ops.specs.InnerAgents.{kept_read};
 
+use fuse::Fuse;
 use gpt_descriptors::{Generations, Size};
 use history::Answer;
+use shatter::Splitting;
 
 /// Which of its changes a transition makes. A delegate makes the last one alone, an undelegate goes
 /// through no access first.
@@ -47,7 +49,7 @@ impl Kept {
 }
 
 /// How far the call under way of an agent has come, with what it keeps.
-#[derive(Clone, Copy, Debug, PartialEq, Eq)]
+#[derive(Clone, Copy, Debug)]
 pub enum Stage {
     /// The next act takes the lock.
     Locking,
@@ -55,13 +57,14 @@ pub enum Stage {
     Looking,
     /// The granule has the needed GPI. The next act loads the generation of this size.
     Reading(Size, Kept),
+    /// The granule is in a contiguous block of this size. The next act is a store of its splitting.
+    Splitting(Size, Splitting, Generations),
     /// The next act writes the L1 word with this change of the granule.
     Changing(Change, Kept),
     /// The granule is changed. The next act raises the generation of this size.
     Raising(Change, Size, Kept),
-    /// The next act releases the lock, and the call is answered so. A call without an answer has found
-    /// a contiguous entry.
-    Releasing(Option<Answer>),
-    /// The call has found a contiguous entry, and makes no act from here on.
-    Stopped,
+    /// The granule has its last GPI. The next act is a load or a store of merging.
+    Merging(Fuse, Generations),
+    /// The next act releases the lock, and the call is answered so.
+    Releasing(Answer),
 }
