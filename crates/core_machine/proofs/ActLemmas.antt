@@ -1,53 +1,49 @@
--- A step of one caller keeps the facts of the core: what it has to show of the words, its own state and
--- the entry that it makes.
-use Rattle.std.proofs.Common.{◌≡◌, ◌≢◌, ℕ, zero, suc, ◌+◌, ◌*◌, ◌/◌, ◌^◌, ◌<◌, ◌⊎◌, ◌++◌, ◌∷◌, [], List, true, false, ◌&&◌, eqb, Option, Some, None, length, set, refl, sym, ap, ◌∙◌, subst, arith, inl, inr, append-nil}
-use Rattle.std.specs.Prelude.{slice_get}
-use Rattle.std.specs.List.{count_by}
+-- An agent at a stage of a task: what it holds, and what it has to show of an act between its lock and its unlock.
+use Rattle.std.proofs.Common.{◌≡◌, ◌≢◌, ℕ, zero, suc, ◌+◌, ◌*◌, ◌/◌, ◌%◌, ◌^◌, ◌<◌, ◌⊎◌, ◌++◌, ◌∷◌, [], List, true, false, ◌&&◌, eqb, Option, Some, None, length, set, refl, sym, ap, ◌∙◌, subst, arith, inl, inr, append_assoc, append-nil}
+use Rattle.std.specs.Prelude.{slice_get, IfSome}
 use Rattle.std.proofs.Math.Nat.{div-le_self}
-use Rattle.std.proofs.lemmas.Bool.{cases_Bool, eqb-true, eq-eqb}
-use Rattle.std.proofs.lemmas.List.Elements.{All-set}
-use Rattle.gpi_values.specs.declared.gpi.Gpi.{Gpi}
+use Rattle.std.proofs.lemmas.Bool.{cases_Bool, eqb-true}
 use Rattle.gpt_descriptors.specs.declared.size.Size.{Size}
-use Rattle.gpt_descriptors.specs.Sizes.{SetupData, IsSetup, granule_bytes, space_bytes}
-use Rattle.gpt_descriptors.specs.Places.{GeometryData, blocks_in_region}
-use Rattle.bit_locks.specs.Locks.{lock_number, lock_bit}
+use Rattle.gpt_descriptors.specs.declared.size.Generations.{Generations}
+use Rattle.gpt_descriptors.specs.Sizes.{SetupData, IsSetup, granule_bytes, size_bytes, space_bytes}
+use Rattle.gpt_descriptors.specs.Places.{GeometryData, WordName, Generation, gen_place_of, blocks_in_region}
+use Rattle.gpt_descriptors.proofs.PlaceLemmas.{place_below, generation_named}
+use Rattle.bit_locks.specs.Locks.{lock_number}
 use Rattle.history.specs.declared.call.Task.{Task}
 use Rattle.history.specs.declared.call.Answer.{Answer}
 use Rattle.history.specs.declared.entry.Entry.{Entry}
-use Rattle.history.specs.Entries.{caller_in, call_in}
-use Rattle.history.specs.States.{State, start, after_entry, state_after}
+use Rattle.history.specs.declared.entry.Entry.TheVariants as entry
+use Rattle.history.specs.Entries.{caller_in, call_in, granule_in}
+use Rattle.history.specs.States.{is_open, state_after}
 use Rattle.history.specs.Legality.{StateAllows}
-use Rattle.history.specs.Counts.{is_by, is_completion, count_of}
-use Rattle.history.proofs.HistoryLemmas.{state_after-append}
+use Rattle.history.specs.Calls.{answered_entries}
+use Rattle.history.specs.Counts.{region_of, count_of}
 use Rattle.delegate_ops.specs.declared.stage.Stage.{Stage}
 use Rattle.delegate_ops.specs.declared.stage.Stage.TheVariants as stage
-use Rattle.delegate_ops.specs.Deciding.{address_of, idle_answer}
-use Rattle.delegate_ops.specs.InnerAgents.{AgentData, IsAgent, task_of, goes_to}
-use Rattle.delegate_ops.proofs.DecidingLemmas.{acts_inside}
+use Rattle.delegate_ops.specs.Deciding.{address_of, idle_answer, generation_in}
+use Rattle.delegate_ops.specs.InnerAgents.{AgentData, IsAgent, task_of, goes_to, took_at}
+use Rattle.delegate_ops.specs.InnerEntries.{entries_at}
+use Rattle.delegate_ops.proofs.DecidingLemmas.{acts_inside, acts_usable}
 use Rattle.delegate_ops.proofs.AgentLemmas.{at_stage}
 use Rattle.core_machine.specs.declared.caller.Caller.{Caller}
 use Rattle.core_machine.specs.declared.caller.Caller.TheVariants as caller
-use Rattle.core_machine.specs.InnerCallers.{own_of, call_of}
 use Rattle.core_machine.specs.InnerTables.{MeansMap}
 use Rattle.core_machine.specs.InnerLocks.{is_inside, holds}
-use Rattle.core_machine.specs.InnerOpened.{open_by, pairs_of, OpenAreHeld}
-use Rattle.core_machine.specs.InnerSeen.{Sees}
-use Rattle.core_machine.specs.InnerRaised.{is_due}
-use Rattle.core_machine.specs.InnerAlone.{IsAlone}
-use Rattle.core_machine.specs.InnerCounted.{coming_at, known_answers, caller_tasks}
-use Rattle.core_machine.specs.InnerHistory.{IsHistoryOf}
-use Rattle.core_machine.specs.InnerInvariant.{IsMade, Invariant, AreIdle}
-use Rattle.core_machine.proofs.ListLemmas.{one, get_set, get_append, get_front}
-use Rattle.core_machine.proofs.LockLemmas.{locks_keep}
-use Rattle.core_machine.proofs.OthersLemmas.{Holder, other_number, made_at_place, is_holder, holder_has}
-use Rattle.core_machine.proofs.ToldLemmas.{history_keeps}
-use Rattle.core_machine.proofs.OpenedLemmas.{opened_stays, others_closed}
-use Rattle.core_machine.proofs.RaisedLemmas.{generations_keep}
-use Rattle.core_machine.proofs.AloneLemmas.{undisturbed_more, alone_own, alone_other}
-use Rattle.core_machine.proofs.CountedLemmas.{counted_more}
+use Rattle.core_machine.specs.InnerOpened.{open_at, open_by, pairs_of, OpenAreHeld}
+use Rattle.core_machine.specs.InnerSeen.{Sees, SeesGeneration, SeesAt}
+use Rattle.core_machine.specs.InnerRaised.{is_due_at, is_around, is_due}
+use Rattle.core_machine.specs.InnerCounted.{coming_at}
+use Rattle.core_machine.specs.InnerInvariant.{IsMade}
+use Rattle.core_machine.specs.InnerScene.{Scene, state_in, HoldsIn, scene_after}
+use Rattle.core_machine.proofs.ListLemmas.{one, get_append, get_front}
+use Rattle.core_machine.proofs.TableLemmas.{usable_aligned}
+use Rattle.core_machine.proofs.WordLemmas.{Writes, writes_none, is_lock, is_generation, is_idle, IsOfBlock, locks_left, generations_left}
+use Rattle.core_machine.proofs.OthersLemmas.{Holder, other_number, made_at_place, is_holder, holder_has, others_see, granule_address}
+use Rattle.core_machine.proofs.OpenedLemmas.{opened_stays, others_closed, closed_here}
+use Rattle.core_machine.proofs.RaisedLemmas.{count_seen}
+use Rattle.core_machine.proofs.StepLemmas.{list_of, added_to, IsEntryOf, step_keeps, counted_grown}
 use Rattle.core_machine.specs.Facts.{IsCounted, generation_word, is_on_block}
-use Rattle.delegate_ops.specs.Script.{completion, granule_of_task}
-use Rattle.delegate_ops.specs.Changing.{raised}
+use Rattle.delegate_ops.specs.Script.{granule_of_task}
 
 -- ---- the caller that acts
 
@@ -59,44 +55,86 @@ lock_low s pa setup inside =
       | inr some ↦ rw some (omega (arith, blocks, div-le_self (pa / 2 ^ 29) s.lock_blocks))
     ]
 
--- caller c is an agent at a stage of a task with acts, and all facts stand
-pub record Acting (first : List Gpi) (words : List ℕ) (callers : List Caller) (h : List Entry) (c : ℕ) (a : AgentData) (t : Task) (s : Stage) : Type 0 where
-  pub stands : Invariant a.geometry first words callers h
-  pub at : slice_get callers c ≡ Some (caller.Agent (at_stage a s))
-  pub is : IsAgent (at_stage a s)
+-- caller c is an agent at a stage of a task with acts, and all facts hold
+pub record Acting (s : Scene) (c : ℕ) (a : AgentData) (t : Task) (st : Stage) : Type 0 where
+  pub stands : HoldsIn a.geometry s
+  pub at : slice_get s.callers c ≡ Some (caller.Agent (at_stage a st))
+  pub is : IsAgent (at_stage a st)
   pub under_way : task_of a ≡ Some t
   pub acts : idle_answer a.geometry t ≡ None
+  pub made : (old : ℕ) → IsMade a.geometry (caller.Agent (took_at (at_stage a st) t st old))
 
 -- its lock
 abbrev pub lock_of_task : AgentData → Task → ℕ
 lock_of_task a t = lock_number a.geometry.setup (address_of t)
 
-abbrev pub state_of : List Gpi → List Entry → State
-state_of first h = state_after (start first) h
+module _ {s : Scene} {c : ℕ} {a : AgentData} {t : Task} {st : Stage} (acting : Acting s c a t st) where
+  pub inside_of : address_of t < space_bytes a.geometry.setup
+  inside_of = acts_inside a.geometry t acting.acts
 
-pub low_of : (first : List Gpi) (words : List ℕ) (callers : List Caller) (h : List Entry) (c : ℕ) (a : AgentData) (t : Task) (s : Stage) → Acting first words callers h c a t s → lock_of_task a t < 128
-low_of first words callers h c a t s acting = lock_low a.geometry.setup (address_of t) acting.stands.shape.geometry.setup (acts_inside a.geometry t acting.acts)
+  pub aligned_of : address_of t % granule_bytes a.geometry.setup ≡ 0
+  aligned_of = usable_aligned a.geometry (address_of t) (acts_usable a.geometry t acting.acts)
 
-pub holder_of : (first : List Gpi) (words : List ℕ) (callers : List Caller) (h : List Entry) (c : ℕ) (a : AgentData) (t : Task) (s : Stage) → Acting first words callers h c a t s → is_inside s ≡ true
-    → Holder a.geometry callers c (at_stage a s) t
-holder_of first words callers h c a t s acting inside = record { at = acting.at; geometry = refl; inside = inside; under_way = acting.under_way; acts = acting.acts }
+  -- its generation words are among the words
+  pub generation_below : (z : Size) → gen_place_of a.geometry z (address_of t) < length s.words
+  generation_below z =
+      subst (λ (n : ℕ). gen_place_of a.geometry z (address_of t) < n) (sym acting.stands.shape.size)
+      (place_below a.geometry (Generation z (address_of t / size_bytes z)) (generation_named a.geometry z (address_of t) inside_of))
 
-pub mades_of : (first : List Gpi) (words : List ℕ) (callers : List Caller) (h : List Entry) (c : ℕ) (a : AgentData) (t : Task) (s : Stage) → Acting first words callers h c a t s
-    → (d : ℕ) (y : Caller) → slice_get callers d ≡ Some y → IsMade a.geometry y
-mades_of first words callers h c a t s acting d y there = made_at_place a.geometry first words callers d y acting.stands.shape there
+  pub low_of : lock_of_task a t < 128
+  low_of = lock_low a.geometry.setup (address_of t) acting.stands.shape.geometry.setup inside_of
 
--- the others hold nothing of its granule open
-pub closed_of : (first : List Gpi) (words : List ℕ) (callers : List Caller) (h : List Entry) (c : ℕ) (a : AgentData) (t : Task) (s : Stage) → Acting first words callers h c a t s → is_inside s ≡ true
-    → (d : ℕ) (y : Caller) → d ≢ c → slice_get callers d ≡ Some y → pairs_of (granule_of_task a.geometry t) (open_by y) ≡ []
-closed_of first words callers h c a t s acting inside d y apart there =
-    others_closed a.geometry words callers c d (at_stage a s) t y acting.stands.locks (low_of first words callers h c a t s acting) (holder_of first words callers h c a t s acting inside) apart there
-    (mades_of first words callers h c a t s acting d y there)
+  pub mades_of : (d : ℕ) (y : Caller) → slice_get s.callers d ≡ Some y → IsMade a.geometry y
+  mades_of d y there = made_at_place a.geometry s.first s.words s.callers d y acting.stands.shape there
 
--- another holder has another lock
-pub other_lock : (first : List Gpi) (words : List ℕ) (callers : List Caller) (h : List Entry) (c : ℕ) (a : AgentData) (t : Task) (s : Stage) → Acting first words callers h c a t s → is_inside s ≡ true
-    → (d : ℕ) (b : AgentData) (u : Task) → d ≢ c → Holder a.geometry callers d b u → lock_number a.geometry.setup (address_of u) ≢ lock_of_task a t
-other_lock first words callers h c a t s acting inside d b u apart theirs =
-    other_number a.geometry words callers c d (at_stage a s) b t u acting.stands.locks (low_of first words callers h c a t s acting) (holder_of first words callers h c a t s acting inside) theirs apart
+  pub holder_of : is_inside st ≡ true → Holder a.geometry s.callers c (at_stage a st) t
+  holder_of inside = record { at = acting.at; geometry = refl; inside = inside; under_way = acting.under_way; acts = acting.acts }
+
+  -- another holder has another lock
+  pub other_lock : is_inside st ≡ true → (d : ℕ) (b : AgentData) (u : Task) → d ≢ c → Holder a.geometry s.callers d b u → lock_number a.geometry.setup (address_of u) ≢ lock_of_task a t
+  other_lock inside d b u apart theirs = other_number a.geometry s.words s.callers c d (at_stage a st) b t u acting.stands.locks low_of (holder_of inside) theirs apart
+
+  -- the others hold nothing of its granule open
+  pub closed_of : is_inside st ≡ true → (d : ℕ) (y : Caller) → d ≢ c → slice_get s.callers d ≡ Some y → pairs_of (granule_of_task a.geometry t) (open_by y) ≡ []
+  closed_of inside d y apart there = others_closed a.geometry s.words s.callers c d (at_stage a st) t y acting.stands.locks low_of (holder_of inside) apart there (mades_of d y there)
+
+  -- and where it holds nothing open, its granule is closed
+  pub granule_closed : is_inside st ≡ true → open_at a.geometry st (Some t) ≡ [] → is_open (state_in s) (granule_of_task a.geometry t) ≡ false
+  granule_closed inside none = closed_here (state_in s) s.callers c (granule_of_task a.geometry t) (caller.Agent (at_stage a st)) acting.at acting.stands.opened (closed_of inside) (rw acting.under_way none)
+
+  -- what it sees of a generation is the count, less its own change where it hasn't raised it
+  pub counts_of : is_inside st ≡ true → (k : Generations) (y : Size) → SeesGeneration a.geometry s.words t k y
+      → generation_in y k + one (is_due y (region_of (granule_bytes a.geometry.setup) y (granule_of_task a.geometry t)) (caller.Agent (at_stage a st)))
+      ≡ count_of a.geometry.setup.first (granule_bytes a.geometry.setup) y (region_of (granule_bytes a.geometry.setup) y (granule_of_task a.geometry t)) s.history
+  counts_of inside k y sees = count_seen a.geometry s.words s.callers s.history c (at_stage a st) t k y acting.stands.locks low_of (holder_of inside) mades_of acting.stands.generations sees
+
+  -- what it sees
+  pub seen_of : SeesAt a.geometry s.words st (Some t)
+  seen_of = subst (SeesAt a.geometry s.words st) acting.under_way (acting.stands.seen c (caller.Agent (at_stage a st)) acting.at)
+
+  -- the others keep what they see, where the word that it writes is of no other holder's block
+  pub others_left : {n : Option WordName} {after : List ℕ} (m : ℕ) → Writes a.geometry s.words n after → IsOfBlock a.geometry m n
+      → ((d : ℕ) (b : AgentData) (u : Task) → d ≢ c → Holder a.geometry s.callers d b u → lock_number a.geometry.setup (address_of u) ≢ m)
+      → (d : ℕ) (y : Caller) → d ≢ c → slice_get s.callers d ≡ Some y → Sees after y
+  others_left m writes of away d y apart there =
+      others_see s.callers d m y writes of acting.stands.shape.geometry (mades_of d y there) there (λ b u theirs. away d b u apart theirs) (acting.stands.seen d y there)
+
+  -- or is one that no call keeps: 128 is the number of no lock
+  pub others_stay : {n : Option WordName} {after : List ℕ} → Writes a.geometry s.words n after → IsOfBlock a.geometry 128 n → (d : ℕ) (y : Caller) → d ≢ c → slice_get s.callers d ≡ Some y → Sees after y
+  others_stay writes of =
+      others_left 128 writes of
+      (λ d b u apart theirs same. omega (arith, same, lock_low a.geometry.setup (address_of u) acting.stands.shape.geometry.setup (acts_inside a.geometry u theirs.acts)))
+
+  -- where it goes on holding open what it does
+  pub opened_same : (next : Stage) → open_at a.geometry next (Some t) ≡ open_at a.geometry st (Some t) → OpenAreHeld (state_in s).opened (set s.callers c (caller.Agent (goes_to (at_stage a st) next)))
+  opened_same next same =
+      opened_stays (state_in s).opened (state_in s).opened s.callers c (caller.Agent (at_stage a st)) (caller.Agent (goes_to (at_stage a st) next)) acting.at acting.stands.opened refl (rw acting.under_way same)
+
+  -- where it goes on owing what it does, and writes no generation
+  pub raised_same : {n : Option WordName} {after : List ℕ} (next : Stage) → Writes a.geometry s.words n after → is_generation n ≡ false → ((y : Size) → is_due_at next y ≡ is_due_at st y)
+      → (y : Size) (region : ℕ) → region < blocks_in_region y * a.geometry.setup.gigabytes
+      → generation_word a.geometry after y region + one (is_due_at next y && is_around a.geometry y region (Some t)) ≡ generation_word a.geometry s.words y region + one (is_due_at st y && is_around a.geometry y region (Some t)) + 0
+  raised_same next writes unlike due y region within = rw (generations_left writes unlike y region within, due y) (omega arith)
 
 -- whoever holds a lock holds that of its own task
 held_by : (g : GeometryData) (callers : List Caller) (d n : ℕ) (b : AgentData) (o : Option Task) → slice_get callers d ≡ Some (caller.Agent b) → IsMade g (caller.Agent b) → task_of b ≡ o → holds n (caller.Agent b) ≡ true
@@ -119,99 +157,59 @@ pub held_number : (g : GeometryData) (callers : List Caller) (d n : ℕ) (y : Ca
 held_number g callers d n (caller.Cpu looks) there made has = absurd cc
 held_number g callers d n (caller.Agent b) there made has = held_by g callers d n b (task_of b) there made refl has
 
--- ---- a step that makes no entry
+-- ---- an act between its lock and its unlock
 
-pub record WithoutEntry (first : List Gpi) (words after : List ℕ) (callers : List Caller) (h : List Entry) (c : ℕ) (a : AgentData) (me x : Caller) : Type 0 where
-  pub size : length after ≡ length words
-  pub made : IsMade a.geometry x
-  pub tables : MeansMap a.geometry after (state_of first h).map
-  pub opened : open_by x ≡ open_by me
-  pub locks : (n : ℕ) → n < 128 → lock_bit after n + one (holds n me) ≡ lock_bit words n + one (holds n x)
-  pub seen : Sees after x
-  pub others : (d : ℕ) (y : Caller) → d ≢ c → slice_get callers d ≡ Some y → Sees after y
-  pub raised : (y : Size) (region : ℕ) → region < blocks_in_region y * a.geometry.setup.gigabytes
-      → generation_word a.geometry after y region + one (is_due y region x) ≡ generation_word a.geometry words y region + one (is_due y region me)
-  pub alone : (n : ℕ) → holds n x ≡ true → IsAlone a.geometry.setup n c (call_of x) h
-  pub tasks : caller_tasks x ≡ caller_tasks me
-  pub counted : (k : ℕ) (u : Task) (given : Answer) → slice_get (caller_tasks me) k ≡ Some u → slice_get (known_answers x) k ≡ Some given → IsCounted a.geometry c k u given h
-  pub own : own_of c x ≡ own_of c me
-  pub idle : AreIdle a.geometry after
+-- an entry of its call, on its granule
+pub record IsOwn (s : Scene) (c : ℕ) (a : AgentData) (t : Task) (e : Entry) : Type 0 where
+  pub caller : caller_in e ≡ c
+  pub call : call_in e ≡ length a.answers
+  pub granule : granule_in e ≡ granule_of_task a.geometry t
+  pub allowed : StateAllows (state_in s) e
 
-pub without_entry_keeps : (first : List Gpi) (words after : List ℕ) (callers : List Caller) (h : List Entry) (c : ℕ) (a : AgentData) (me x : Caller) → Invariant a.geometry first words callers h → slice_get callers c ≡ Some me
-    → WithoutEntry first words after callers h c a me x → Invariant a.geometry first after (set callers c x) (h ++ [])
-without_entry_keeps first words after callers h c a me x stands at q =
-    let same : h ++ [] ≡ h = append-nil h in
-    subst (λ (l : List Entry). Invariant a.geometry first after (set callers c x) l) (sym same)
-    (record {
-      shape = record {
-        geometry = stands.shape.geometry;
-        size = q.size ∙ stands.shape.size;
-        granules = stands.shape.granules;
-        made = All-set (IsMade a.geometry) callers c x q.made stands.shape.made;
-      };
-      tables = q.tables;
-      opened = opened_stays (state_of first h).opened (state_of first h).opened callers c me x at stands.opened refl q.opened;
-      locks = locks_keep words after callers c me x at stands.locks q.locks;
-      seen = λ d y there. elim (get_set callers c d x y there) [ inl here ↦ subst (Sees after) here.1 q.seen | inr away ↦ q.others d y away.0 away.1 ];
-      generations = subst (λ (l : List Entry). (y : Size) (region : ℕ) → region < blocks_in_region y * a.geometry.setup.gigabytes
-          → generation_word a.geometry after y region + count_by (is_due y region) (set callers c x) ≡ count_of a.geometry.setup.first (granule_bytes a.geometry.setup) y region l) same
-          (generations_keep a.geometry words after callers h c me x [] at stands.generations
-          (λ y region within. rw same (ap (λ (n : ℕ). n + count_of a.geometry.setup.first (granule_bytes a.geometry.setup) y region h) (q.raised y region within))));
-      undisturbed = stands.undisturbed;
-      alone = λ d n y there has.
-          elim (get_set callers c d x y there) [
-            | inl here ↦ subst (λ (z : Caller). IsAlone a.geometry.setup n d (call_of z) h) here.1 (subst (λ (m : ℕ). IsAlone a.geometry.setup n m (call_of x) h) (sym here.0) (q.alone n (subst (λ (z : Caller). holds n z ≡ true) (sym here.1) has)))
-            | inr away ↦ stands.alone d n y away.1 has
-          ];
-      counted = λ d k y u given there asked answered.
-          elim (get_set callers c d x y there) [
-            | inl here ↦ subst (λ (m : ℕ). IsCounted a.geometry m k u given h) (sym here.0)
-                (q.counted k u given (subst (λ (tasks : List Task). slice_get tasks k ≡ Some u) q.tasks (subst (λ (z : Caller). slice_get (caller_tasks z) k ≡ Some u) (sym here.1) asked))
-                (subst (λ (z : Caller). slice_get (known_answers z) k ≡ Some given) (sym here.1) answered))
-            | inr away ↦ stands.counted d k y u given away.1 asked answered
-          ];
-      history = subst (IsHistoryOf first (set callers c x)) same
-          (history_keeps first callers h c 0 me x [] at stands.history (inl refl) (q.own ∙ sym (append-nil (own_of c me))) tt);
-      idle = q.idle;
-    })
-
--- ---- a step that makes one entry of its call, and stays inside
-
-pub record WithEntry (first : List Gpi) (words after : List ℕ) (callers : List Caller) (h : List Entry) (c : ℕ) (a : AgentData) (t : Task) (s next : Stage) (e : Entry) : Type 0 where
-  pub inside : is_inside s ≡ true
+-- It goes on to another stage inside. It wrote this word of its block, if it wrote one, and made this entry, if it
+-- made one.
+pub record Goes (s : Scene) (c : ℕ) (a : AgentData) (t : Task) (st next : Stage) (n : Option WordName) (after : List ℕ) (o : Option Entry) : Type 0 where
+  pub inside : is_inside st ≡ true
   pub stays : is_inside next ≡ true
-  pub size : length after ≡ length words
-  pub made : IsMade a.geometry (caller.Agent (goes_to (at_stage a s) next))
-  pub by : (caller_in e ≡ c) × (call_in e ≡ length a.answers)
-  pub block : (n : ℕ) → is_on_block a.geometry.setup n e ≡ true → n ≡ lock_of_task a t
-  pub allowed : StateAllows (state_of first h) e
-  pub tables : MeansMap a.geometry after (after_entry (state_of first h) e).map
-  pub opened : OpenAreHeld (after_entry (state_of first h) e).opened (set callers c (caller.Agent (goes_to (at_stage a s) next)))
-  pub locks : (n : ℕ) → n < 128 → lock_bit after n ≡ lock_bit words n
-  pub seen : Sees after (caller.Agent (goes_to (at_stage a s) next))
-  pub others : (d : ℕ) (y : Caller) → d ≢ c → slice_get callers d ≡ Some y → Sees after y
+  pub made : IsMade a.geometry (caller.Agent (goes_to (at_stage a st) next))
+  pub writes : Writes a.geometry s.words n after
+  pub block : IsOfBlock a.geometry (lock_of_task a t) n
+  pub no_lock : is_lock n ≡ false
+  pub idle : is_idle n ≡ false
+  pub entry : IfSome o (IsOwn s c a t)
+  pub tables : MeansMap a.geometry after (state_after (state_in s) (list_of o)).map
+  pub opened : OpenAreHeld (state_after (state_in s) (list_of o)).opened (set s.callers c (caller.Agent (goes_to (at_stage a st) next)))
+  pub seen : SeesAt a.geometry after next (Some t)
   pub raised : (y : Size) (region : ℕ) → region < blocks_in_region y * a.geometry.setup.gigabytes
-      → generation_word a.geometry after y region + one (is_due y region (caller.Agent (goes_to (at_stage a s) next))) + count_of a.geometry.setup.first (granule_bytes a.geometry.setup) y region h
-      ≡ generation_word a.geometry words y region + one (is_due y region (caller.Agent (at_stage a s))) + count_of a.geometry.setup.first (granule_bytes a.geometry.setup) y region (h ++ e ∷ [])
-  pub coming : (given : Answer) → coming_at next ≡ given ∷ [] → IsCounted a.geometry c (length a.answers) t given (h ++ e ∷ [])
-  pub own : own_of c (caller.Agent (goes_to (at_stage a s) next)) ≡ own_of c (caller.Agent (at_stage a s)) ++ e ∷ []
-  pub idle : AreIdle a.geometry after
+      → generation_word a.geometry after y region + one (is_due_at next y && is_around a.geometry y region (Some t))
+      ≡ generation_word a.geometry s.words y region + one (is_due_at st y && is_around a.geometry y region (Some t)) + added_to a.geometry y region o
+  pub coming : (given : Answer) → coming_at next ≡ given ∷ [] → IsCounted a.geometry c (length a.answers) t given (s.history ++ list_of o)
+  pub front : entries_at a.geometry c (length a.answers) next (Some t) ≡ entries_at a.geometry c (length a.answers) st (Some t) ++ list_of o
 
-is_by_own : (c k : ℕ) (e : Entry) → caller_in e ≡ c → call_in e ≡ k → is_by c k e ≡ true
-is_by_own c k e mine call = rw (eq-eqb (caller_in e) c mine, eq-eqb (call_in e) k call) refl
+-- the block of an entry is that of its granule
+pub on_number : (s : SetupData) (n : ℕ) (e : Entry) → is_on_block s n e ≡ true → lock_number s (granule_in e * granule_bytes s) ≡ n
+on_number s n (entry.Refused c k granule found) on = eqb-true _ _ on
+on_number s n (entry.Changed c k granule from to) on = eqb-true _ _ on
+on_number s n (entry.Settled c k granule) on = eqb-true _ _ on
+on_number s n (entry.Looked c k granule space gpi allowed) on = absurd cc
 
-is_by_other : (c d k j : ℕ) (e : Entry) → caller_in e ≡ c → call_in e ≡ k → ((d ≢ c) ⊎ (j ≢ k)) → (is_completion e && is_by d j e) ≡ false
-is_by_other c d k j e mine call apart =
-    elim (cases_Bool (is_completion e)) [
-      | inr other ↦ rw other refl
-      | inl completion ↦ rw completion (elim (cases_Bool (eqb (caller_in e) d)) [
-        | inr other ↦ rw other refl
-        | inl same ↦ rw same (elim (cases_Bool (eqb (call_in e) j)) [
-          | inr other ↦ other
-          | inl call_same ↦ absurd (elim apart [ inl d_apart ↦ d_apart (sym (eqb-true _ _ same) ∙ mine) | inr j_apart ↦ j_apart (sym (eqb-true _ _ call_same) ∙ call) ])
-        ])
-      ])
-    ]
+entry_of : {s : Scene} {c : ℕ} {a : AgentData} {t : Task} {st : Stage} (next : Stage) (o : Option Entry) → Acting s c a t st → is_inside st ≡ true → IfSome o (IsOwn s c a t)
+    → IfSome o (IsEntryOf a.geometry s c (caller.Agent (at_stage a st)) (caller.Agent (goes_to (at_stage a st) next)))
+entry_of next None acting inside own = tt
+entry_of {s = s} {c = c} {a = a} {t = t} {st = st} next (Some e) acting inside own =
+    let g = a.geometry in
+    let number : (m : ℕ) → is_on_block g.setup m e ≡ true → lock_of_task a t ≡ m =
+    λ m on. ap (lock_number g.setup) (sym (granule_address g t acting.acts) ∙ ap (λ (granule : ℕ). granule * granule_bytes g.setup) (sym own.granule)) ∙ on_number g.setup m e on in
+    record {
+      caller = own.caller;
+      call = own.call;
+      goes_on = refl;
+      block = λ m on. (
+        subst (λ (k : ℕ). k < 128) (number m on) (low_of acting),
+        subst (λ (k : ℕ). holds k (caller.Agent (at_stage a st)) ≡ true) (number m on) (holder_has g s.callers c (at_stage a st) t (holder_of acting inside)),
+      );
+      allowed = own.allowed;
+    }
 
 one_item : (xs : List Answer) (i : ℕ) (given : Answer) → length xs < 2 → slice_get xs i ≡ Some given → (i ≡ 0) × (xs ≡ given ∷ [])
 one_item [] i given few there = absurd cc
@@ -219,94 +217,90 @@ one_item (x ∷ []) zero given few there = (refl, let same : x ≡ given = cc in
 one_item (x ∷ []) (suc i) given few there = absurd cc
 one_item (x ∷ y ∷ xs) i given few there = absurd (omega (arith, few))
 
-coming_few : (s : Stage) → length (coming_at s) < 2
+coming_few : (st : Stage) → length (coming_at st) < 2
 coming_few (stage.Releasing (Some given)) = omega arith
-coming_few (stage.Releasing None) = omega arith
-coming_few stage.Locking = omega arith
-coming_few stage.Looking = omega arith
-coming_few (stage.Reading z k) = omega arith
-coming_few (stage.Changing c k) = omega arith
-coming_few (stage.Raising c z k) = omega arith
-coming_few stage.Stopped = omega arith
+coming_few st = omega arith
 
 -- the answer of a call that goes on to this stage: an earlier one, or the one that is to come
-pub known_parts : (answers : List Answer) (s : Stage) (k : ℕ) (given : Answer) → slice_get (answers ++ coming_at s) k ≡ Some given
-    → ((k < length answers) × (slice_get answers k ≡ Some given)) ⊎ ((k ≡ length answers) × (coming_at s ≡ given ∷ []))
-known_parts answers s k given there =
-    elim (get_append answers (coming_at s) k given there) [
+known_parts : (answers : List Answer) (st : Stage) (k : ℕ) (given : Answer) → slice_get (answers ++ coming_at st) k ≡ Some given
+    → ((k < length answers) × (slice_get answers k ≡ Some given)) ⊎ ((k ≡ length answers) × (coming_at st ≡ given ∷ []))
+known_parts answers st k given there =
+    elim (get_append answers (coming_at st) k given there) [
       | inl front ↦ inl front
-      | inr back ↦ (let one = one_item (coming_at s) back.0 given (coming_few s) back.2 in inr (let same : k ≡ length answers = omega (arith, back.1, one.0) in same, one.1))
+      | inr back ↦ (let one = one_item (coming_at st) back.0 given (coming_few st) back.2 in inr (let same : k ≡ length answers = omega (arith, back.1, one.0) in same, one.1))
     ]
 
-holds_same : (a : AgentData) (s next : Stage) (n : ℕ) → is_inside s ≡ true → is_inside next ≡ true → holds n (caller.Agent (goes_to (at_stage a s) next)) ≡ holds n (caller.Agent (at_stage a s))
-holds_same a s next n inside stays = rw (inside, stays) refl
-
--- its own answers are the counts
-own_counted : (first : List Gpi) (words after : List ℕ) (callers : List Caller) (h : List Entry) (c : ℕ) (a : AgentData) (t : Task) (s next : Stage) (e : Entry) (k : ℕ) (u : Task) (given : Answer) → Acting first words callers h c a t s
-    → WithEntry first words after callers h c a t s next e → slice_get a.tasks k ≡ Some u → slice_get (a.answers ++ coming_at next) k ≡ Some given → IsCounted a.geometry c k u given (h ++ e ∷ [])
-own_counted first words after callers h c a t s next e k u given acting tells asked answered =
-    elim (known_parts a.answers next k given answered) [
-      | inl old ↦
-          counted_more a.geometry c k u given h e
-          (acting.stands.counted c k (caller.Agent (at_stage a s)) u given acting.at asked (get_front a.answers (coming_at s) k given old.1))
-          (is_by_other c c (length a.answers) k e tells.by.0 tells.by.1 (inr (λ same. omega (arith, same, old.0))))
-      | inr new ↦
-          (let task : t ≡ u = let both : Some t ≡ Some u = sym acting.under_way ∙ ap (slice_get a.tasks) (sym new.0) ∙ asked in cc in
-          subst (λ (m : ℕ). IsCounted a.geometry c m u given (h ++ e ∷ [])) (sym new.0)
-          (subst (λ (v : Task). IsCounted a.geometry c (length a.answers) v given (h ++ e ∷ [])) task (tells.coming given new.1)))
-    ]
-
-pub with_entry_keeps : (first : List Gpi) (words after : List ℕ) (callers : List Caller) (h : List Entry) (c : ℕ) (a : AgentData) (t : Task) (s next : Stage) (e : Entry) → Acting first words callers h c a t s
-    → WithEntry first words after callers h c a t s next e → Invariant a.geometry first after (set callers c (caller.Agent (goes_to (at_stage a s) next))) (h ++ e ∷ [])
-with_entry_keeps first words after callers h c a t s next e acting tells =
-    let stands = acting.stands in
-    let me = caller.Agent (at_stage a s) in
-    let x = caller.Agent (goes_to (at_stage a s) next) in
-    let same : state_of first (h ++ e ∷ []) ≡ after_entry (state_of first h) e = state_after-append (start first) h (e ∷ []) in
-    let mine = holder_of first words callers h c a t s acting tells.inside in
-    let own_number : holds (lock_of_task a t) me ≡ true = holder_has a.geometry callers c (at_stage a s) t mine in
-    record {
-      shape = record {
-        geometry = stands.shape.geometry;
-        size = tells.size ∙ stands.shape.size;
-        granules = stands.shape.granules;
-        made = All-set (IsMade a.geometry) callers c x tells.made stands.shape.made;
-      };
-      tables = subst (λ (st : State). MeansMap a.geometry after st.map) (sym same) tells.tables;
-      opened = subst (λ (st : State). OpenAreHeld st.opened (set callers c x)) (sym same) tells.opened;
-      locks = locks_keep words after callers c me x acting.at stands.locks
-          (λ n below. rw (tells.locks n below, holds_same a s next n tells.inside tells.stays) refl);
-      seen = λ d y there. elim (get_set callers c d x y there) [ inl here ↦ subst (Sees after) here.1 tells.seen | inr away ↦ tells.others d y away.0 away.1 ];
-      generations = generations_keep a.geometry words after callers h c me x (e ∷ []) acting.at stands.generations tells.raised;
-      undisturbed = undisturbed_more a.geometry.setup h e c (length a.answers) (lock_of_task a t) stands.undisturbed
-          (stands.alone c (lock_of_task a t) me acting.at own_number) (is_by_own c (length a.answers) e tells.by.0 tells.by.1) tells.block;
-      alone = λ d n y there has.
-          elim (get_set callers c d x y there) [
-            | inl here ↦
-                subst (λ (z : Caller). IsAlone a.geometry.setup n d (call_of z) (h ++ e ∷ [])) here.1
-                (subst (λ (m : ℕ). IsAlone a.geometry.setup n m (length a.answers) (h ++ e ∷ [])) (sym here.0)
-                (alone_own a.geometry.setup n c (length a.answers) h e
-                (stands.alone c n me acting.at (sym (holds_same a s next n tells.inside tells.stays) ∙ subst (λ (z : Caller). holds n z ≡ true) (sym here.1) has))
-                (is_by_own c (length a.answers) e tells.by.0 tells.by.1)))
-            | inr away ↦
-                alone_other a.geometry.setup n d (call_of y) h e (stands.alone d n y away.1 has)
-                (elim (cases_Bool (is_on_block a.geometry.setup n e)) [
-                  | inr other ↦ other
-                  | inl on ↦
-                      absurd
-                      (let theirs = held_number a.geometry callers d n y away.1 (mades_of first words callers h c a t s acting d y away.1) has in
-                      other_lock first words callers h c a t s acting tells.inside d theirs.0 theirs.1 away.0 theirs.2 (theirs.3 ∙ tells.block n on))
-                ])
+pub goes_keeps : {s : Scene} {c : ℕ} {a : AgentData} {t : Task} {st : Stage} (acting : Acting s c a t st) (next : Stage) (n : Option WordName) (after : List ℕ) (o : Option Entry) → Goes s c a t st next n after o
+    → HoldsIn a.geometry (scene_after s c (caller.Agent (goes_to (at_stage a st) next)) after (list_of o))
+goes_keeps {s = s} {c = c} {a = a} {t = t} {st = st} acting next n after o goes =
+    let g = a.geometry in
+    let me = caller.Agent (at_stage a st) in
+    let x = caller.Agent (goes_to (at_stage a st) next) in
+    let entry = entry_of next o acting goes.inside goes.entry in
+    step_keeps g s c me x n after o acting.stands
+    (record {
+      at = acting.at;
+      made = goes.made;
+      writes = goes.writes;
+      entry = entry;
+      tables = goes.tables;
+      opened = goes.opened;
+      locks = λ m low. rw (locks_left goes.writes goes.no_lock m low, goes.inside, goes.stays) refl;
+      seen = rw acting.under_way goes.seen;
+      others = others_left acting (lock_of_task a t) goes.writes goes.block (other_lock acting goes.inside);
+      raised = λ y region within. rw acting.under_way (goes.raised y region within);
+      alone = λ m has. acting.stands.alone c m me acting.at (rw goes.inside (rw goes.stays at has));
+      counted = λ k u given asked answered.
+          elim (known_parts a.answers next k given answered) [
+            | inl old ↦
+                counted_grown g s c c k me x u given o entry (inr (λ same. omega (arith, same, old.0)))
+                (acting.stands.counted c k me u given acting.at asked (get_front a.answers (coming_at st) k given old.1))
+            | inr new ↦
+                (let task : t ≡ u = let both : Some t ≡ Some u = sym acting.under_way ∙ ap (slice_get a.tasks) (sym new.0) ∙ asked in cc in
+                subst (λ (m : ℕ). IsCounted g c m u given (s.history ++ list_of o)) (sym new.0)
+                (subst (λ (v : Task). IsCounted g c (length a.answers) v given (s.history ++ list_of o)) task (goes.coming given new.1)))
           ];
-      counted = λ d k y u given there asked answered.
-          elim (get_set callers c d x y there) [
-            | inl here ↦
-                subst (λ (m : ℕ). IsCounted a.geometry m k u given (h ++ e ∷ [])) (sym here.0)
-                (own_counted first words after callers h c a t s next e k u given acting tells (subst (λ (z : Caller). slice_get (caller_tasks z) k ≡ Some u) (sym here.1) asked)
-                (subst (λ (z : Caller). slice_get (known_answers z) k ≡ Some given) (sym here.1) answered))
-            | inr away ↦
-                counted_more a.geometry d k u given h e (stands.counted d k y u given away.1 asked answered) (is_by_other c d (length a.answers) k e tells.by.0 tells.by.1 (inl away.0))
-          ];
-      history = history_keeps first callers h c (length a.answers) me x (e ∷ []) acting.at stands.history (inr (e, refl, tells.by.0, tells.by.1)) tells.own (tells.allowed, tt);
-      idle = tells.idle;
-    }
+      own = rw acting.under_way
+          (ap (λ (es : List Entry). answered_entries (granule_bytes g.setup) c 0 a.tasks a.answers ++ es) goes.front
+          ∙ sym (append_assoc (answered_entries (granule_bytes g.setup) c 0 a.tasks a.answers) (entries_at g c (length a.answers) st (Some t)) (list_of o)));
+      idle = goes.idle;
+    })
+
+-- ---- an act that makes no entry
+
+-- the next stage holds open, owes and has made what this one does, and no answer is to come
+pub record IsAlike (g : GeometryData) (c k : ℕ) (t : Task) (st next : Stage) : Type 0 where
+  pub inside : is_inside st ≡ true
+  pub stays : is_inside next ≡ true
+  pub opened : open_at g next (Some t) ≡ open_at g st (Some t)
+  pub due : (y : Size) → is_due_at next y ≡ is_due_at st y
+  pub coming : coming_at next ≡ []
+  pub front : entries_at g c k next (Some t) ≡ entries_at g c k st (Some t)
+
+-- it writes no lock and no generation
+pub goes_quietly : {s : Scene} {c : ℕ} {a : AgentData} {t : Task} {st : Stage} (acting : Acting s c a t st) (next : Stage) (n : Option WordName) (after : List ℕ) → IsAlike a.geometry c (length a.answers) t st next
+    → IsMade a.geometry (caller.Agent (goes_to (at_stage a st) next)) → Writes a.geometry s.words n after → IsOfBlock a.geometry (lock_of_task a t) n → is_lock n ≡ false → is_idle n ≡ false → is_generation n ≡ false
+    → MeansMap a.geometry after (state_in s).map → SeesAt a.geometry after next (Some t) → HoldsIn a.geometry (scene_after s c (caller.Agent (goes_to (at_stage a st) next)) after [])
+goes_quietly {st = st} acting next n after alike made writes block no_lock idle no_generation tables sees =
+    goes_keeps acting next n after None
+    (record {
+      inside = alike.inside;
+      stays = alike.stays;
+      made = made;
+      writes = writes;
+      block = block;
+      no_lock = no_lock;
+      idle = idle;
+      entry = tt;
+      tables = tables;
+      opened = opened_same acting next alike.opened;
+      seen = sees;
+      raised = raised_same acting next writes no_generation alike.due;
+      coming = λ given is. absurd (let both : [] ≡ given ∷ [] = sym alike.coming ∙ is in cc);
+      front = alike.front ∙ sym (append-nil _);
+    })
+
+-- it writes nothing
+pub load_quietly : {s : Scene} {c : ℕ} {a : AgentData} {t : Task} {st : Stage} (acting : Acting s c a t st) (next : Stage) → IsAlike a.geometry c (length a.answers) t st next
+    → IsMade a.geometry (caller.Agent (goes_to (at_stage a st) next)) → SeesAt a.geometry s.words next (Some t) → HoldsIn a.geometry (scene_after s c (caller.Agent (goes_to (at_stage a st) next)) s.words [])
+load_quietly {s = s} {a = a} acting next alike made sees = goes_quietly acting next None s.words alike made (writes_none a.geometry s.words) tt refl refl refl acting.stands.tables sees

@@ -23,7 +23,6 @@ use Rattle.history.specs.Counts.{is_by}
 use Rattle.core_machine.specs.InnerAlone.{IsAlone}
 use Rattle.core_machine.proofs.ListLemmas.{all_one}
 use Rattle.core_machine.specs.Facts.{AreUndisturbed, is_on_block}
-use Rattle.delegate_ops.specs.InnerAgents.{fresh}
 
 -- ---- lists in parts
 
@@ -97,9 +96,8 @@ alone_behind s n c k h before rest x alone parts front on =
     (any_weaker (λ y. is_by c k y && is_on_block s n y) (is_by c k) before (λ y both. (and_parts (is_by c k y) (is_on_block s n y) both).0) front)
     alone.alone on
 
-pub undisturbed_more : (s : SetupData) (h : List Entry) (e : Entry) (c k n : ℕ) → AreUndisturbed s h → IsAlone s n c k h → is_by c k e ≡ true
-    → ((m : ℕ) → is_on_block s m e ≡ true → m ≡ n) → AreUndisturbed s (h ++ e ∷ [])
-undisturbed_more s h e c k n old alone own block = λ before after x d j m parts front back on.
+pub undisturbed_more : (s : SetupData) (h : List Entry) (e : Entry) (c k : ℕ) → AreUndisturbed s h → ((m : ℕ) → is_on_block s m e ≡ true → IsAlone s m c k h) → is_by c k e ≡ true → AreUndisturbed s (h ++ e ∷ [])
+undisturbed_more s h e c k old alone own = λ before after x d j m parts front back on.
     elim (last_split h e before after x parts) [
       | inl none ↦ absurd (let both : false ≡ true = subst (λ (xs : List Entry). list_any (λ y. is_by d j y && is_on_block s m y) xs ≡ true) none back in cc)
       | inr more ↦
@@ -107,15 +105,13 @@ undisturbed_more s h e c k n old alone own block = λ before after x d j m parts
             | inl earlier ↦ old before more.0 x d j m more.2 front earlier on
             | inr last ↦
                 let both = and_parts (is_by d j e) (is_on_block s m e) (any_one (λ y. is_by d j y && is_on_block s m y) e last) in
-                let here : m ≡ n = block m both.1 in
                 let whose = same_call c k d j e own both.0 in
                 subst (λ (i : ℕ). is_by i j x ≡ true) (sym whose.0)
                 (subst (λ (i : ℕ). is_by c i x ≡ true) (sym whose.1)
-                (alone_behind s n c k h before more.0 x alone more.2
-                (subst (λ (i : ℕ). list_any (λ y. is_by c k y && is_on_block s i y) before ≡ true) here
+                (alone_behind s m c k h before more.0 x (alone m both.1) more.2
                 (subst (λ (i : ℕ). list_any (λ y. is_by c i y && is_on_block s m y) before ≡ true) whose.1
-                (subst (λ (i : ℕ). list_any (λ y. is_by i j y && is_on_block s m y) before ≡ true) whose.0 front)))
-                (subst (λ (i : ℕ). is_on_block s i x ≡ true) here on)))
+                (subst (λ (i : ℕ). list_any (λ y. is_by i j y && is_on_block s m y) before ≡ true) whose.0 front))
+                on))
           ]
     ]
 

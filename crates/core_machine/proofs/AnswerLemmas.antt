@@ -1,9 +1,9 @@
 -- What a history says of calls without an answer, and the causes of the answers without acts.
-use Rattle.std.proofs.Common.{◌≡◌, ◌≢◌, ℕ, zero, suc, ◌+◌, ◌*◌, ◌/◌, ◌<◌, ◌≤◌, ◌⊎◌, ◌++◌, ◌∷◌, [], List, Bool, true, false, ◌&&◌, eqb, map, length, Option, Some, None, refl, sym, ap, ◌∙◌, subst, arith, inl, inr}
+use Rattle.std.proofs.Common.{◌≡◌, ℕ, zero, suc, ◌+◌, ◌*◌, ◌/◌, ◌<◌, ◌≤◌, ◌++◌, ◌∷◌, [], List, Bool, true, false, ◌&&◌, eqb, map, length, Option, Some, None, refl, sym, ap, ◌∙◌, subst, arith, inl, inr}
 use Rattle.std.specs.Prelude.{slice_get, MatchOption}
-use Rattle.std.specs.List.{All, filter, find, list_any}
+use Rattle.std.specs.List.{All, find, list_any}
 use Rattle.std.specs.Option.{option_map}
-use Rattle.std.proofs.lemmas.Bool.{cases_Bool, cases_eq, eqb-true, eq-eqb, and_parts, and_left, and_right, or_cases, or_parts}
+use Rattle.std.proofs.lemmas.Bool.{cases_Bool, eqb-true, eq-eqb, and_parts, and_right, or_cases, or_parts}
 use Rattle.std.proofs.lemmas.List.Elements.{All-nil, All-head, All-tail, All-append}
 use Rattle.std.proofs.lemmas.List.Folds.{list_any-append}
 use Rattle.std.proofs.lemmas.Option.{slice_get-map}
@@ -31,16 +31,17 @@ use Rattle.core_machine.specs.declared.caller.Caller.{Caller}
 use Rattle.core_machine.specs.declared.caller.Caller.TheVariants as caller
 use Rattle.std.proofs.lemmas.Option.{slice_get_cases}
 use Rattle.core_machine.proofs.LegalLemmas.{HaveTasks, AreMade}
-use Rattle.core_machine.proofs.EntryLemmas.{IsOwnEntry, FitsAnswer, decided_fits, IsPrefixFit, prefix_fits, prefix_allowed}
+use Rattle.core_machine.proofs.EntryLemmas.{IsOwnEntry, FitsAnswer, decided_fits, prefix_fits, prefix_allowed}
 use Rattle.core_machine.proofs.AloneLemmas.{all_middle, any_weaker, any_one, later_number, all_two}
 use Rattle.core_machine.proofs.ListLemmas.{all_one}
 use Rattle.core_machine.proofs.OthersLemmas.{granule_address}
+use Rattle.core_machine.proofs.ActLemmas.{on_number}
 use Rattle.core_machine.specs.InnerAlone.{IsAlone}
 use Rattle.core_machine.specs.Facts.{AreAlone, AreWorn, IsCounted, is_on_block}
 use Rattle.delegate_ops.specs.Script.{AreCallEvents, CallEvent, Decides, IsCall, change_entry, completion, entries_of, granule_of_task}
 use Rattle.delegate_ops.specs.Deciding.{HasCause, address_of, generation_in, granule_place, idle_answer, is_decided, is_needed, refusal_of}
 use Rattle.delegate_ops.specs.InnerScript.{IsPrefix}
-use Rattle.core_machine.specs.InnerInvariant.{Invariant}
+use Rattle.core_machine.specs.InnerScene.{Scene, HoldsIn}
 use Rattle.core_machine.specs.InnerHistory.{IsHistoryOf}
 use Rattle.history.specs.Calls.{answer_at, answered_entries, entries_by}
 use Rattle.history.specs.Entries.{call_in, caller_in, granule_in}
@@ -139,13 +140,9 @@ past_end (x ∷ xs) zero none = absurd cc
 past_end (x ∷ xs) (suc k) none = let rest = past_end xs k none in omega (arith, rest)
 
 inside_by : (g : GeometryData) (c n : ℕ) (s : Stage) (t : Task) (p : Entry → Bool) → list_any p (entries_at g c n s (Some t)) ≡ true → is_inside s ≡ true
-inside_by g c n (stage.Changing ch k) t p some = refl
-inside_by g c n (stage.Raising ch z k) t p some = refl
-inside_by g c n (stage.Releasing given) t p some = refl
 inside_by g c n stage.Locking t p some = absurd cc
-inside_by g c n stage.Looking t p some = refl
-inside_by g c n (stage.Reading z k) t p some = refl
 inside_by g c n stage.Stopped t p some = absurd cc
+inside_by g c n s t p some = refl
 
 -- the call under way of an agent, which has an entry that passes a test
 pub record UnderWay (g : GeometryData) (c k : ℕ) (a : AgentData) (p : Entry → Bool) : Type 0 where
@@ -212,12 +209,6 @@ unanswered g first callers h before after e c k p tells made none by parts passe
 
 -- ---- a call without an answer is alone on its lock block
 
-on_number : (s : SetupData) (n : ℕ) (e : Entry) → is_on_block s n e ≡ true → lock_number s (granule_in e * granule_bytes s) ≡ n
-on_number s n (entry.Refused c k granule found) on = eqb-true _ _ on
-on_number s n (entry.Changed c k granule from to) on = eqb-true _ _ on
-on_number s n (entry.Settled c k granule) on = eqb-true _ _ on
-on_number s n (entry.Looked c k granule space gpi allowed) on = absurd cc
-
 task_granule : (g : GeometryData) (t : Task) (granule : ℕ) → granule_of (granule_bytes g.setup) t ≡ Some granule → granule ≡ granule_of_task g t
 task_granule g (task.Delegate pa source) granule is = cc
 task_granule g (task.Undelegate pa source) granule is = cc
@@ -228,9 +219,9 @@ task_granule g (task.Look pa space) granule is = cc
 abbrev on_block_of : SetupData → ℕ → ℕ → ℕ → Entry → Bool
 on_block_of s c k n e = is_by c k e && is_on_block s n e
 
-alone_of : (first : List Gpi) (words : List ℕ) (callers : List Caller) (h before after : List Entry) (e : Entry) (c k n : ℕ) (a : AgentData) → Invariant a.geometry first words callers h → slice_get callers c ≡ Some (caller.Agent a)
-    → UnderWay a.geometry c k a (on_block_of a.geometry.setup c k n) → h ≡ before ++ e ∷ after → is_by c k e ≡ true → All (λ x. is_on_block a.geometry.setup n x ≡ true → is_by c k x ≡ true) after
-alone_of first words callers h before after e c k n a stands at way parts by =
+alone_of : (s : Scene) (before after : List Entry) (e : Entry) (c k n : ℕ) (a : AgentData) → HoldsIn a.geometry s → slice_get s.callers c ≡ Some (caller.Agent a)
+    → UnderWay a.geometry c k a (on_block_of a.geometry.setup c k n) → s.history ≡ before ++ e ∷ after → is_by c k e ≡ true → All (λ x. is_on_block a.geometry.setup n x ≡ true → is_by c k x ≡ true) after
+alone_of s before after e c k n a stands at way parts by =
     let g = a.geometry in
     let on = (and_parts (is_by c k way.entry) (is_on_block g.setup n way.entry) way.passes).1 in
     let granule = task_granule g way.task (granule_in way.entry) way.granule in
@@ -238,16 +229,16 @@ alone_of first words callers h before after e c k n a stands at way parts by =
     ap (lock_number g.setup) (sym (granule_address g way.task way.acts) ∙ ap (λ (x : ℕ). x * granule_bytes g.setup) (sym granule)) ∙ on_number g.setup n way.entry on in
     let inside = inside_by g c (length a.answers) a.stage way.task (on_block_of g.setup c k n) way.some in
     let has : holds n (caller.Agent a) ≡ true = rw (inside, way.next) (eq-eqb (lock_number g.setup (address_of way.task)) n number) in
-    let alone : IsAlone g.setup n c k h = subst (λ (m : ℕ). IsAlone g.setup n c m h) (sym way.number) (stands.alone c n (caller.Agent a) at has) in
+    let alone : IsAlone g.setup n c k s.history = subst (λ (m : ℕ). IsAlone g.setup n c m s.history) (sym way.number) (stands.alone c n (caller.Agent a) at has) in
     all_after (is_by c k) (λ x. is_on_block g.setup n x ≡ true → is_by c k x ≡ true) alone.before alone.since before after e (sym alone.parts ∙ parts) alone.fresh by alone.alone
 
-pub alone_told : (g : GeometryData) (first : List Gpi) (words : List ℕ) (callers : List Caller) (h : List Entry) → Invariant g first words callers h → AreMade g callers → AreAlone g.setup (map caller_answers callers) h
-alone_told g first words callers h stands made before after e c k n parts none by on =
-    let one = unanswered g first callers h before after e c k (on_block_of g.setup c k n) stands.history made none (λ x passes. (and_parts (is_by c k x) (is_on_block g.setup n x) passes).0) parts (rw by on) in
+pub alone_told : (g : GeometryData) (s : Scene) → HoldsIn g s → AreMade g s.callers → AreAlone g.setup (map caller_answers s.callers) s.history
+alone_told g s stands made before after e c k n parts none by on =
+    let one = unanswered g s.first s.callers s.history before after e c k (on_block_of g.setup c k n) stands.history made none (λ x passes. (and_parts (is_by c k x) (is_on_block g.setup n x) passes).0) parts (rw by on) in
     let is = made c one.agent one.at in
     let way = one.way in
     subst (λ (v : GeometryData). All (λ (x : Entry). is_on_block v.setup n x ≡ true → is_by c k x ≡ true) after) is.0
-    (alone_of first words callers h before after e c k n one.agent (subst (λ (v : GeometryData). Invariant v first words callers h) (sym is.0) stands) one.at
+    (alone_of s before after e c k n one.agent (subst (λ (v : GeometryData). HoldsIn v s) (sym is.0) stands) one.at
     (subst (λ (v : GeometryData). UnderWay one.agent.geometry c k one.agent (on_block_of v.setup c k n)) (sym is.0) way) parts by)
 
 -- ---- a refusal with the needed GPI
@@ -294,14 +285,10 @@ worn_to_come g c n k (task.Undelegate pa source) (answer.Done generations) found
     (none_refuses c k found (entry.Changed c n (pa / granule_bytes g.setup) (of_source source) gpi.NoAccess) refl) (none_refuses c k found (entry.Settled c n (pa / granule_bytes g.setup)) refl))
     (all_two (λ e. refused_by c k found e ≡ false) (entry.Changed c n (pa / granule_bytes g.setup) gpi.NoAccess gpi.NonSecure) (entry.Settled c n (pa / granule_bytes g.setup))
     (none_refuses c k found (entry.Changed c n (pa / granule_bytes g.setup) gpi.NoAccess gpi.NonSecure) refl) (none_refuses c k found (entry.Settled c n (pa / granule_bytes g.setup)) refl))) some)
+worn_to_come g c n k t (answer.Seen access) found needs fits some = absurd fits
 worn_to_come g c n k (task.Delegate pa source) answer.Inval found needs fits some = absurd cc
 worn_to_come g c n k (task.Delegate pa source) answer.Unknown found needs fits some = absurd cc
-worn_to_come g c n k (task.Delegate pa source) (answer.Seen access) found needs fits some = absurd fits
-worn_to_come g c n k (task.Undelegate pa source) answer.Inval found needs fits some = absurd cc
-worn_to_come g c n k (task.Undelegate pa source) answer.Unknown found needs fits some = absurd cc
-worn_to_come g c n k (task.Undelegate pa source) (answer.Seen access) found needs fits some = absurd fits
-worn_to_come g c n k task.Unknown given found needs fits some = absurd cc
-worn_to_come g c n k (task.Look pa space) given found needs fits some = absurd cc
+worn_to_come g c n k t given found needs fits some = absurd cc
 
 before_quiet : (g : GeometryData) (c n k : ℕ) (t : Task) (ch : Change) (found : Gpi) → All (λ e. refused_by c k found e ≡ false) (entries_before g c n t ch)
 before_quiet g c n k (task.Undelegate pa source) change.Last found =
@@ -319,37 +306,32 @@ worn_at : (g : GeometryData) (c n k : ℕ) (s : Stage) (t : Task) (found : Gpi) 
 worn_at g c n k (stage.Releasing (Some given)) t found events needs prefix some =
     let worn = worn_to_come g c n k t given found needs (decided_fits g c n t given events prefix) some in
     (worn.0, worn.1, ap (λ (a : Answer). stage.Releasing (Some a)) worn.2)
-worn_at g c n k (stage.Releasing None) t found events needs prefix some = absurd cc
 worn_at g c n k (stage.Changing ch kept) t found events needs prefix some = absurd (none_pass (refused_by c k found) (entries_before g c n t ch) (before_quiet g c n k t ch found) some)
 worn_at g c n k (stage.Raising ch z kept) t found events needs prefix some =
     absurd
     (none_pass (refused_by c k found) (entries_before g c n t ch ++ change_entry g c n t ch ∷ [])
     (All-append (λ e. refused_by c k found e ≡ false) (entries_before g c n t ch) (change_entry g c n t ch ∷ []) (before_quiet g c n k t ch found)
     (all_one (λ e. refused_by c k found e ≡ false) (change_entry g c n t ch) (none_refuses c k found (change_entry g c n t ch) refl))) some)
-worn_at g c n k stage.Locking t found events needs prefix some = absurd cc
-worn_at g c n k stage.Looking t found events needs prefix some = absurd cc
-worn_at g c n k (stage.Reading z kept) t found events needs prefix some = absurd cc
-worn_at g c n k stage.Stopped t found events needs prefix some = absurd cc
+worn_at g c n k s t found events needs prefix some = absurd cc
 
-worn_of : (g : GeometryData) (first : List Gpi) (words : List ℕ) (callers : List Caller) (h : List Entry) (c k : ℕ) (a : AgentData) (t : Task) (found : Gpi) (events : List CallEvent) → Invariant g first words callers h → slice_get callers c ≡ Some (caller.Agent a)
+worn_of : (g : GeometryData) (s : Scene) (c k : ℕ) (a : AgentData) (t : Task) (found : Gpi) (events : List CallEvent) → HoldsIn g s → slice_get s.callers c ≡ Some (caller.Agent a)
     → a.geometry ≡ g → task_of a ≡ Some t → k ≡ length a.answers → needed t ≡ Some found → IsPrefix a.geometry c (length a.answers) a.stage (Some t) events
-    → list_any (refused_by c k found) (entries_at a.geometry c (length a.answers) a.stage (Some t)) ≡ true → (z : Size) × (value : ℕ) × IsCounted g c k t (answer.Worn z value) h
-worn_of g first words callers h c k a t found events stands at geometry next number needs prefix some =
+    → list_any (refused_by c k found) (entries_at a.geometry c (length a.answers) a.stage (Some t)) ≡ true → (z : Size) × (value : ℕ) × IsCounted g c k t (answer.Worn z value) s.history
+worn_of g s c k a t found events stands at geometry next number needs prefix some =
     let worn = worn_at a.geometry c (length a.answers) k a.stage t found events needs prefix some in
     let given : Answer = answer.Worn worn.0 worn.1 in
-    let coming : known_answers (caller.Agent a) ≡ a.answers ++ given ∷ [] = ap (λ (s : Stage). a.answers ++ coming_at s) worn.2 in
+    let coming : known_answers (caller.Agent a) ≡ a.answers ++ given ∷ [] = ap (λ (st : Stage). a.answers ++ coming_at st) worn.2 in
     let there : slice_get (known_answers (caller.Agent a)) (length a.answers) ≡ Some given = ap (λ (xs : List Answer). slice_get xs (length a.answers)) coming ∙ get_after a.answers given in
-    (worn.0, worn.1, subst (λ (m : ℕ). IsCounted g c m t given h) (sym number) (stands.counted c (length a.answers) (caller.Agent a) t given at next there))
+    (worn.0, worn.1, subst (λ (m : ℕ). IsCounted g c m t given s.history) (sym number) (stands.counted c (length a.answers) (caller.Agent a) t given at next there))
 
-pub worn_told : (g : GeometryData) (first : List Gpi) (words : List ℕ) (callers : List Caller) (h : List Entry) (tasks : List (List Task)) → Invariant g first words callers h → HaveTasks tasks callers → AreMade g callers
-    → AreWorn g tasks (map caller_answers callers) h
-worn_told g first words callers h tasks stands have made before after c k granule found t parts asked none needs =
+pub worn_told : (g : GeometryData) (s : Scene) (tasks : List (List Task)) → HoldsIn g s → HaveTasks tasks s.callers → AreMade g s.callers → AreWorn g tasks (map caller_answers s.callers) s.history
+worn_told g s tasks stands have made before after c k granule found t parts asked none needs =
     let e = entry.Refused c k granule found in
-    let one = unanswered g first callers h before after e c k (refused_by c k found) stands.history made none (λ x passes. (and_parts (is_by c k x) (refuses found x) passes).0) parts
+    let one = unanswered g s.first s.callers s.history before after e c k (refused_by c k found) stands.history made none (λ x passes. (and_parts (is_by c k x) (refuses found x) passes).0) parts
     (rw (eq-eqb c c refl, eq-eqb k k refl) (eq-eqb (value_of found) (value_of found) refl)) in
     let is = made c one.agent one.at in
     let own : slice_get one.agent.tasks k ≡ Some t = rw (have c one.agent one.at) at asked in
     let same : one.way.task ≡ t = let both : Some one.way.task ≡ Some t = sym one.way.next ∙ ap (slice_get one.agent.tasks) (sym one.way.number) ∙ own in cc in
-    worn_of g first words callers h c k one.agent t found is.3.last stands one.at is.0 (one.way.next ∙ ap Some same) one.way.number needs
+    worn_of g s c k one.agent t found is.3.last stands one.at is.0 (one.way.next ∙ ap Some same) one.way.number needs
     (subst (λ (o : Option Task). IsPrefix one.agent.geometry c (length one.agent.answers) one.agent.stage o is.3.last) (one.way.next ∙ ap Some same) is.3.under_way)
     (subst (λ (u : Task). list_any (refused_by c k found) (entries_at one.agent.geometry c (length one.agent.answers) one.agent.stage (Some u)) ≡ true) same one.way.some)

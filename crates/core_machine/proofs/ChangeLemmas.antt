@@ -2,7 +2,7 @@
 -- contiguous ones cover equal granules.
 use Rattle.std.proofs.Common.{◌≡◌, ◌≢◌, ℕ, zero, suc, ◌+◌, ◌*◌, ◌/◌, ◌%◌, ◌^◌, ◌<◌, ◌∷◌, [], ◌⊎◌, List, length, get_or, set, true, false, cond, eqb, Option, Some, None, refl, sym, ap, ◌∙◌, subst, arith, inl, inr, mul_comm, take}
 use Rattle.std.specs.Prelude.{slice_get, slice_index}
-use Rattle.std.proofs.Math.Nat.{div-div-eq-div-mul, add-mul-div_right}
+use Rattle.std.proofs.Math.Nat.{div-div-eq-div-mul}
 use Rattle.std.proofs.lemmas.Nat.{div-add-mod', mul-add-lt, mod_below}
 use Rattle.std.proofs.lemmas.Bool.{cases_Bool, cases_eq, eqb-true, and_parts, cond-true}
 use Rattle.std.proofs.lemmas.Option.{cond_some, slice_get-get_or}
@@ -22,7 +22,7 @@ use Rattle.gpt_descriptors.specs.Entries.{field, l1_entry, word_gpi, packed}
 use Rattle.gpt_descriptors.specs.Canonical.{is_one_block, canonical_word}
 use Rattle.gpt_descriptors.specs.Level0.{is_table, table_count, l1_index}
 use Rattle.gpt_descriptors.specs.Places.{GeometryData, IsGeometry, Level1, place_of, l0_words, l1_words, l1_index_of}
-use Rattle.gpt_descriptors.proofs.SizeLemmas.{word_is, table_words_low, thirty_two_is, five_twelve_is, table_is}
+use Rattle.gpt_descriptors.proofs.SizeLemmas.{word_is, table_words_low}
 use Rattle.gpt_descriptors.proofs.CanonicalLemmas.{canonical_choice, words_some}
 use Rattle.gpt_descriptors.proofs.PackedLemmas.{packed-zero, packed-suc, four_more}
 use Rattle.gpt_descriptors.proofs.PlaceLemmas.{index_within, l1_index_one, l1_index_within}

@@ -159,12 +159,7 @@ raising_fits g c k (task.Look pa space) ch changes = absurd changes
 
 no_task_prefix : (g : GeometryData) (c k : ℕ) (s : Stage) → entries_at g c k s None ≡ []
 no_task_prefix g c k stage.Locking = refl
-no_task_prefix g c k stage.Looking = refl
-no_task_prefix g c k (stage.Reading z kept) = refl
-no_task_prefix g c k (stage.Changing ch kept) = refl
-no_task_prefix g c k (stage.Raising ch z kept) = refl
-no_task_prefix g c k (stage.Releasing given) = refl
-no_task_prefix g c k stage.Stopped = refl
+no_task_prefix g c k s = refl
 
 pub prefix_fits : (g : GeometryData) (c k : ℕ) (s : Stage) (o : Option Task) (events : List CallEvent) → IsStage s o → IsPrefix g c k s o events → IsPrefixFit g c k o (entries_at g c k s o)
 prefix_fits g c k (stage.Changing ch kept) (Some t) events fits front = changing_fits g c k t ch
@@ -174,11 +169,7 @@ prefix_fits g c k (stage.Raising ch size.FiveTwelve kept) (Some t) events fits f
 prefix_fits g c k (stage.Releasing (Some given)) (Some t) events fits front =
     let es : List Entry = call_entries (granule_bytes g.setup) c k t given in
     (given, length es, sym (take_all (length es) es (omega arith)), decided_fits g c k t given events front)
-prefix_fits g c k (stage.Releasing None) (Some t) events fits front = (answer.Inval, 0, refl, tt)
-prefix_fits g c k stage.Locking (Some t) events fits front = (answer.Inval, 0, refl, tt)
-prefix_fits g c k stage.Looking (Some t) events fits front = (answer.Inval, 0, refl, tt)
-prefix_fits g c k (stage.Reading z kept) (Some t) events fits front = (answer.Inval, 0, refl, tt)
-prefix_fits g c k stage.Stopped (Some t) events fits front = (answer.Inval, 0, refl, tt)
+prefix_fits g c k s (Some t) events fits front = (answer.Inval, 0, refl, tt)
 prefix_fits g c k s None events fits front = no_task_prefix g c k s
 
 -- the entries of a prefix are allowed by an answer

@@ -1,8 +1,7 @@
 -- What is played fits its scenario: all words are there, and no caller has more answers than calls.
-use Rattle.std.proofs.Common.{◌≡◌, ℕ, zero, suc, ◌≤◌, [], ◌∷◌, List, map, set, length, Option, Some, None, refl, sym, ap, ◌∙◌, subst, arith, inl, inr}
+use Rattle.std.proofs.Common.{◌≡◌, ℕ, zero, suc, ◌≤◌, [], ◌∷◌, List, map, set, length, Option, Some, None, refl, sym, ap, ◌∙◌, subst, arith}
 use Rattle.std.specs.Prelude.{slice_get, Result, Ok, Err, IfOk}
 use Rattle.std.specs.List.{All}
-use Rattle.std.proofs.lemmas.Bool.{cases_Bool}
 use Rattle.std.proofs.lemmas.List.{length-map}
 use Rattle.std.proofs.lemmas.List.Elements.{All-head, All-tail}
 use Rattle.gpi_values.specs.declared.gpi.Gpi.{Gpi}
@@ -16,9 +15,7 @@ use Rattle.scenario_text.specs.Calls.{calls_of as calls_in, AreAnswersOf}
 use Rattle.history.specs.declared.call.Task.{Task}
 use Rattle.history.specs.declared.entry.Entry.{Entry}
 use Rattle.history.specs.declared.outcome.Outcome.{Outcome}
-use Rattle.delegate_ops.specs.declared.stage.Stage.{Stage}
-use Rattle.delegate_ops.specs.declared.stage.Stage.TheVariants as stage
-use Rattle.delegate_ops.specs.InnerAgents.{AgentData, is_held, took_at, took_under_way, task_of}
+use Rattle.delegate_ops.specs.InnerAgents.{task_of}
 use Rattle.core_machine.specs.InnerCallerLaws.{agent_tasks}
 use Rattle.core_machine.specs.declared.caller.Caller.{Caller}
 use Rattle.core_machine.specs.declared.caller.Caller.TheVariants as caller

@@ -1,36 +1,41 @@
 -- The law of one act: by cases on the caller, its task under way and its stage.
-use Rattle.std.proofs.Common.{◌≡◌, ℕ, ◌<◌, ◌++◌, ◌∷◌, [], List, Option, Some, None, length, set, refl, ap, ◌∙◌, subst, inl, inr}
-use Rattle.std.specs.Prelude.{slice_get, slice_index, option_and_then}
+use Rattle.std.proofs.Common.{◌≡◌, ℕ, ◌<◌, ◌++◌, ◌∷◌, [], Option, Some, None, length, refl, ap, ◌∙◌, subst, inl, inr, sym, Bool, arith, false, ◌/◌, ◌⊎◌, true}
+use Rattle.std.specs.Prelude.{slice_get, option_and_then}
 use Rattle.std.proofs.lemmas.Bool.{cases_Bool}
-use Rattle.std.proofs.lemmas.Option.{slice_get_within, get_or_from_slice_get}
-use Rattle.gpi_values.specs.declared.gpi.Gpi.{Gpi}
-use Rattle.gpt_descriptors.specs.Places.{GeometryData, gen_place_of, l1_place_of}
+use Rattle.gpt_descriptors.specs.Places.{GeometryData, l1_place_of, Level1, WordName, Generation, IsGeometry, Lock, word_count, gen_place_of, IsWordName, place_of}
 use Rattle.shared_words.specs.declared.act.Act.{Act}
 use Rattle.shared_words.specs.declared.act.Act.TheVariants as act
-use Rattle.shared_words.specs.Acts.{place_in, answer_of, after_act}
-use Rattle.bit_locks.specs.Locks.{take_act, release_act}
+use Rattle.shared_words.specs.Acts.{place_in, answer_of}
+use Rattle.bit_locks.specs.Locks.{take_act, release_act, lock_number}
 use Rattle.invalidate.specs.Generations.{gen_load_of, gen_raise_of}
 use Rattle.history.specs.declared.call.Task.{Task}
-use Rattle.history.specs.declared.entry.Entry.{Entry}
 use Rattle.delegate_ops.specs.declared.stage.Stage.{Stage}
 use Rattle.delegate_ops.specs.declared.stage.Stage.TheVariants as stage
-use Rattle.delegate_ops.specs.Deciding.{address_of, generation_in}
+use Rattle.delegate_ops.specs.Deciding.{address_of, generation_in, idle_answer}
 use Rattle.delegate_ops.specs.Changing.{changed_word}
 use Rattle.delegate_ops.specs.InnerAgents.{AgentData, HasActs, task_of, act_at, next_of, is_held, took_at, took_under_way, took_of}
-use Rattle.delegate_ops.proofs.AgentLemmas.{at_stage, took_is_agent}
+use Rattle.delegate_ops.proofs.AgentLemmas.{took_is_agent}
 use Rattle.delegate_ops.proofs.ScriptLemmas.{some_mapped, step_walks}
 use Rattle.core_machine.specs.declared.caller.Caller.{Caller}
 use Rattle.core_machine.specs.declared.caller.Caller.TheVariants as caller
-use Rattle.core_machine.specs.InnerCallers.{caller_took, made_by, MayTake}
-use Rattle.core_machine.specs.InnerInvariant.{IsMade, Invariant}
-use Rattle.core_machine.specs.InnerLaw.{OneActKeeps}
-use Rattle.core_machine.proofs.ActLemmas.{Acting}
+use Rattle.core_machine.specs.InnerCallers.{MayTake, caller_next}
+use Rattle.core_machine.specs.InnerInvariant.{IsMade}
+use Rattle.core_machine.specs.InnerScene.{Scene, HoldsIn}
+use Rattle.core_machine.specs.InnerLaw.{OneActKeeps, scene_acted}
+use Rattle.core_machine.proofs.OthersLemmas.{made_at_place}
+use Rattle.core_machine.proofs.ActLemmas.{Acting, lock_low}
 use Rattle.core_machine.proofs.LockActs.{ActKeeps, take_keeps, release_keeps}
 use Rattle.core_machine.proofs.LoadActs.{look_keeps, read_keeps}
 use Rattle.core_machine.proofs.ChangeActs.{change_keeps}
 use Rattle.core_machine.proofs.RaiseActs.{raise_keeps}
 use Rattle.delegate_ops.specs.Script.{lock_bit_of}
 use Rattle.delegate_ops.specs.InnerEntries.{made_at}
+use Rattle.core_machine.proofs.WordLemmas.{index_at, is_lock}
+use Rattle.gpt_descriptors.proofs.PlaceLemmas.{generation_named, index_within, place_below}
+use Rattle.delegate_ops.proofs.DecidingLemmas.{acts_inside}
+use Rattle.gpt_descriptors.specs.Sizes.{size_bytes}
+use Rattle.gpt_descriptors.specs.declared.size.Size.{Size}
+use Rattle.history.specs.declared.call.Answer.{Answer}
 
 -- ---- an agent after an act was made as before
 
@@ -39,11 +44,7 @@ pub step_leaves : (a : AgentData) (t : Task) (s : Stage) (old : ℕ) → ((took_
 step_leaves a t (stage.Releasing (Some answer)) old = (refl, refl)
 step_leaves a t (stage.Releasing None) old = (refl, refl)
 step_leaves a t stage.Locking old = elim (cases_Bool (is_held a.geometry t stage.Locking old)) [ inl held ↦ rw held (refl, refl) | inr free ↦ rw free (refl, refl) ]
-step_leaves a t stage.Looking old = (refl, refl)
-step_leaves a t (stage.Reading z k) old = (refl, refl)
-step_leaves a t (stage.Changing c k) old = (refl, refl)
-step_leaves a t (stage.Raising c z k) old = (refl, refl)
-step_leaves a t stage.Stopped old = (refl, refl)
+step_leaves a t s old = (refl, refl)
 
 pub took_leaves : (a : AgentData) (o : Option Task) (old : ℕ) → ((took_under_way a o old).geometry ≡ a.geometry) × ((took_under_way a o old).tasks ≡ a.tasks)
 took_leaves a None old = (refl, refl)
@@ -58,49 +59,123 @@ took_made g a next old made e = (
   step_walks made.2 a made.3 next old made.1 made.4 e,
 )
 
+-- ---- the word of an act
+
+abbrev pub is_plain : Act → Bool
+is_plain (act.Load place) = true
+is_plain (act.Store place value) = true
+is_plain t = false
+
+-- the act takes or releases its lock, or it loads or stores a word that is no lock
+pub record IsOn (g : GeometryData) (t : Task) (st : Stage) (next : Act) : Type 0 where
+  pub name : WordName
+  pub named : IsWordName g name
+  pub place : place_in next ≡ place_of g name
+  pub how : ((st ≡ stage.Locking) × (next ≡ take_act (lock_bit_of g t))) ⊎ (((o : Option Answer) × (st ≡ stage.Releasing o) × (next ≡ release_act (lock_bit_of g t))) ⊎ ((is_lock (Some name) ≡ false) × (is_plain next ≡ true)))
+
+lock_row : (g : GeometryData) (t : Task) → IsGeometry g → idle_answer g t ≡ None → lock_number g.setup (address_of t) / 64 < 2
+lock_row g t geometry acts = omega (arith, lock_low g.setup (address_of t) geometry.setup (acts_inside g t acts))
+
+on_level1 : (g : GeometryData) (t : Task) (st : Stage) (place : ℕ) (next : Act) → IsGeometry g → l1_place_of g (address_of t) ≡ Some place → place_in next ≡ place → is_plain next ≡ true → IsOn g t st next
+on_level1 g t st place next geometry there here plain =
+    let at = index_at g (address_of t) place there in
+    record { name = Level1 at.0; named = index_within g (address_of t) at.0 geometry at.1; place = here ∙ at.2; how = inr (inr (refl, plain)) }
+
+on_generation : (g : GeometryData) (t : Task) (st : Stage) (z : Size) (next : Act) → idle_answer g t ≡ None → place_in next ≡ gen_place_of g z (address_of t) → is_plain next ≡ true → IsOn g t st next
+on_generation g t st z next acts here plain =
+    record { name = Generation z (address_of t / size_bytes z); named = generation_named g z (address_of t) (acts_inside g t acts); place = here; how = inr (inr (refl, plain)) }
+
+pub act_word : (g : GeometryData) (t : Task) (st : Stage) (next : Act) → IsGeometry g → idle_answer g t ≡ None → act_at g st t ≡ Some next → IsOn g t st next
+act_word g t stage.Locking next geometry acts e =
+    let same : next ≡ take_act (lock_bit_of g t) = cc in
+    record { name = Lock (lock_number g.setup (address_of t) / 64); named = lock_row g t geometry acts; place = ap place_in same; how = inl (refl, same) }
+act_word g t (stage.Releasing o) next geometry acts e =
+    let same : next ≡ release_act (lock_bit_of g t) = cc in
+    record { name = Lock (lock_number g.setup (address_of t) / 64); named = lock_row g t geometry acts; place = ap place_in same; how = inr (inl (o, refl, same)) }
+act_word g t stage.Looking next geometry acts e =
+    let load = some_mapped act.Load (l1_place_of g (address_of t)) next e in
+    on_level1 g t stage.Looking load.0 next geometry load.1 (ap place_in (sym load.2)) (ap is_plain (sym load.2))
+act_word g t (stage.Reading z k) next geometry acts e =
+    let same : next ≡ gen_load_of g z (address_of t) = cc in
+    on_generation g t (stage.Reading z k) z next acts (ap place_in same) (ap is_plain same)
+act_word g t (stage.Changing ch k) next geometry acts e =
+    let store = some_mapped (λ place. act.Store place (changed_word g t ch k.word)) (l1_place_of g (address_of t)) next e in
+    on_level1 g t (stage.Changing ch k) store.0 next geometry store.1 (ap place_in (sym store.2)) (ap is_plain (sym store.2))
+act_word g t (stage.Raising ch z k) next geometry acts e =
+    let same : next ≡ gen_raise_of g z (address_of t) (generation_in z k.generations) = cc in
+    on_generation g t (stage.Raising ch z k) z next acts (ap place_in same) (ap is_plain same)
+act_word g t stage.Stopped next geometry acts e = absurd cc
+
+pub act_low : (g : GeometryData) (t : Task) (st : Stage) (next : Act) → IsGeometry g → idle_answer g t ≡ None → act_at g st t ≡ Some next → place_in next < word_count g
+act_low g t st next geometry acts e = let on = act_word g t st next geometry acts e in subst (λ (p : ℕ). p < word_count g) (sym on.place) (place_below g on.name on.named)
+
 -- ---- any act of an agent
 
-agent_keeps : (first : List Gpi) (words : List ℕ) (callers : List Caller) (h : List Entry) (c : ℕ) (a : AgentData) (t : Task) (s : Stage) (next : Act) → Acting first words callers h c a t s
-    → ((old : ℕ) → IsMade a.geometry (caller.Agent (took_at (at_stage a s) t s old))) → act_at a.geometry s t ≡ Some next → ActKeeps first words callers h c a t s next
-agent_keeps first words callers h c a t stage.Locking next acting made e =
-    subst (ActKeeps first words callers h c a t stage.Locking) (let same : take_act (lock_bit_of a.geometry t) ≡ next = cc in same) (take_keeps first words callers h c a t acting (made (answer_of (take_act (lock_bit_of a.geometry t)) words)))
-agent_keeps first words callers h c a t stage.Looking next acting made e =
+-- by its stage: for each kind of act one row
+agent_keeps : {s : Scene} {c : ℕ} {a : AgentData} {t : Task} (st : Stage) (next : Act) → Acting s c a t st → act_at a.geometry st t ≡ Some next → ActKeeps s c a t st next
+agent_keeps {s = s} {c = c} {a = a} {t = t} stage.Locking next acting e =
+    subst (ActKeeps s c a t stage.Locking) (let same : take_act (lock_bit_of a.geometry t) ≡ next = cc in same) (take_keeps acting)
+agent_keeps {s = s} {c = c} {a = a} {t = t} stage.Looking next acting e =
     let load = some_mapped act.Load (l1_place_of a.geometry (address_of t)) next e in
-    subst (ActKeeps first words callers h c a t stage.Looking) load.2 (look_keeps first words callers h c load.0 a t acting load.1 (made (slice_index words load.0)))
-agent_keeps first words callers h c a t (stage.Reading z k) next acting made e =
-    subst (ActKeeps first words callers h c a t (stage.Reading z k)) (let same : gen_load_of a.geometry z (address_of t) ≡ next = cc in same) (read_keeps first words callers h c a t z k acting (made (slice_index words (gen_place_of a.geometry z (address_of t)))))
-agent_keeps first words callers h c a t (stage.Changing ch k) next acting made e =
+    subst (ActKeeps s c a t stage.Looking) load.2 (look_keeps acting load.0 load.1)
+agent_keeps {s = s} {c = c} {a = a} {t = t} (stage.Reading z k) next acting e =
+    subst (ActKeeps s c a t (stage.Reading z k)) (let same : gen_load_of a.geometry z (address_of t) ≡ next = cc in same) (read_keeps z k acting)
+agent_keeps {s = s} {c = c} {a = a} {t = t} (stage.Changing ch k) next acting e =
     let store = some_mapped (λ place. act.Store place (changed_word a.geometry t ch k.word)) (l1_place_of a.geometry (address_of t)) next e in
-    subst (ActKeeps first words callers h c a t (stage.Changing ch k)) store.2 (change_keeps first words callers h c store.0 a t ch k acting store.1 made)
-agent_keeps first words callers h c a t (stage.Raising ch z k) next acting made e =
-    subst (ActKeeps first words callers h c a t (stage.Raising ch z k)) (let same : gen_raise_of a.geometry z (address_of t) (generation_in z k.generations) ≡ next = cc in same)
-    (raise_keeps first words callers h c a t ch z k acting made)
-agent_keeps first words callers h c a t (stage.Releasing o) next acting made e =
-    subst (ActKeeps first words callers h c a t (stage.Releasing o)) (let same : release_act (lock_bit_of a.geometry t) ≡ next = cc in same) (release_keeps first words callers h c a t o acting (made (answer_of (release_act (lock_bit_of a.geometry t)) words)))
-agent_keeps first words callers h c a t stage.Stopped next acting made e = absurd cc
+    subst (ActKeeps s c a t (stage.Changing ch k)) store.2 (change_keeps ch k store.0 acting store.1)
+agent_keeps {s = s} {c = c} {a = a} {t = t} (stage.Raising ch z k) next acting e =
+    subst (ActKeeps s c a t (stage.Raising ch z k)) (let same : gen_raise_of a.geometry z (address_of t) (generation_in z k.generations) ≡ next = cc in same) (raise_keeps ch z k acting)
+agent_keeps {s = s} {c = c} {a = a} {t = t} (stage.Releasing o) next acting e =
+    subst (ActKeeps s c a t (stage.Releasing o)) (let same : release_act (lock_bit_of a.geometry t) ≡ next = cc in same) (release_keeps o acting)
+agent_keeps stage.Stopped next acting e = absurd cc
+
+-- ---- a caller with a next act
+
+-- it is an agent at a stage of a task, which has this act next
+pub record Actor (g : GeometryData) (s : Scene) (c : ℕ) (x : Caller) (next : Act) : Type 0 where
+  pub agent : AgentData
+  pub task : Task
+  pub is : x ≡ caller.Agent agent
+  pub geometry : agent.geometry ≡ g
+  pub acting : Acting s c agent task agent.stage
+  pub act : act_at agent.geometry agent.stage task ≡ Some next
+
+acting_of : (s : Scene) (c : ℕ) (a : AgentData) (next : Act) (o : Option Task) → HoldsIn a.geometry s → slice_get s.callers c ≡ Some (caller.Agent a) → IsMade a.geometry (caller.Agent a) → task_of a ≡ o
+    → option_and_then (act_at a.geometry a.stage) o ≡ Some next → Actor a.geometry s c (caller.Agent a) next
+acting_of s c a next None stands at made under_way e = absurd cc
+acting_of s c a next (Some t) stands at made under_way e = record {
+  agent = a;
+  task = t;
+  is = refl;
+  geometry = refl;
+  acting = record {
+    stands = stands;
+    at = at;
+    is = made.1;
+    under_way = under_way;
+    acts = subst (HasActs a.geometry) under_way made.1.acts;
+    made = λ old. subst (λ (o : Option Task). IsMade a.geometry (caller.Agent (took_under_way a o old))) under_way
+        (took_made a.geometry a next old made (ap (λ (o : Option Task). option_and_then (act_at a.geometry a.stage) o) under_way ∙ e));
+  };
+  act = e;
+}
+
+pub actor_of : (g : GeometryData) (s : Scene) (c : ℕ) (x : Caller) (next : Act) → HoldsIn g s → slice_get s.callers c ≡ Some x → caller_next x ≡ Some next → Actor g s c x next
+actor_of g s c (caller.Cpu looks) next stands at e = absurd cc
+actor_of g s c (caller.Agent a) next stands at e =
+    let made = made_at_place g s.first s.words s.callers c (caller.Agent a) stands.shape at in
+    subst (λ (k : GeometryData). HoldsIn k s → IsMade k (caller.Agent a) → Actor k s c (caller.Agent a) next) made.0
+    (λ stands_so made_so. acting_of s c a next (task_of a) stands_so at made_so refl e) stands made
 
 -- what one act keeps
-abbrev Keeps : GeometryData → List Gpi → List ℕ → List Caller → List Entry → ℕ → Caller → Act → Type 0
-Keeps g first words callers h c a t =
-    (place_in t < length words) × MayTake a (answer_of t words)
-    × Invariant g first (after_act t words) (set callers c (caller_took a (answer_of t words))) (h ++ made_by c a (answer_of t words))
-
-agent_one : (first : List Gpi) (words : List ℕ) (callers : List Caller) (h : List Entry) (c : ℕ) (a : AgentData) (next : Act) (o : Option Task)
-    → Invariant a.geometry first words callers h → slice_get callers c ≡ Some (caller.Agent a) → IsMade a.geometry (caller.Agent a) → task_of a ≡ o → option_and_then (act_at a.geometry a.stage) o ≡ Some next
-    → Keeps a.geometry first words callers h c (caller.Agent a) next
-agent_one first words callers h c a next None stands at made under_way e = absurd cc
-agent_one first words callers h c a next (Some t) stands at made under_way e =
-    rw under_way
-    (agent_keeps first words callers h c a t a.stage next
-    (record { stands = stands; at = at; is = made.1; under_way = under_way; acts = subst (HasActs a.geometry) under_way made.1.acts })
-    (λ old. subst (λ (x : Option Task). IsMade a.geometry (caller.Agent (took_under_way a x old))) under_way
-    (took_made a.geometry a next old made (ap (λ (x : Option Task). option_and_then (act_at a.geometry a.stage) x) under_way ∙ e))) e)
+abbrev Keeps : GeometryData → Scene → ℕ → Caller → Act → Type 0
+Keeps g s c x t = (place_in t < length s.words) × MayTake x (answer_of t s.words) × HoldsIn g (scene_acted s c x t)
 
 pub one_act : OneActKeeps
-one_act g first words callers h c (caller.Cpu looks) t stands at next = absurd cc
-one_act g first words callers h c (caller.Agent a) t stands at next =
-    let within : c < length callers = slice_get_within callers c (caller.Agent a) at in
-    let made : IsMade g (caller.Agent a) = subst (IsMade g) (get_or_from_slice_get callers c (caller.Agent a) (caller.Agent a) at) (stands.shape.made c (caller.Agent a) within) in
-    subst (λ (k : GeometryData). Invariant k first words callers h → IsMade k (caller.Agent a) → Keeps k first words callers h c (caller.Agent a) t) made.0
-    (λ stands_so made_so. agent_one first words callers h c a t (task_of a) stands_so at made_so refl next)
-    stands made
+one_act g s c x t stands at next =
+    let actor = actor_of g s c x t stands at next in
+    subst (λ (y : Caller). Keeps g s c y t) (sym actor.is)
+    (subst (λ (k : GeometryData). Keeps k s c (caller.Agent actor.agent) t) actor.geometry
+    (let low = act_low actor.agent.geometry actor.task actor.agent.stage t actor.acting.stands.shape.geometry actor.acting.acts actor.act in
+    let kept = agent_keeps actor.agent.stage t actor.acting actor.act in
+    rw actor.acting.under_way (subst (λ (n : ℕ). place_in t < n) (sym actor.acting.stands.shape.size) low, kept.0, kept.1)))

@@ -4,7 +4,7 @@ use Rattle.std.specs.Prelude.{slice_get, option_and_then}
 use Rattle.std.specs.List.{All}
 use Rattle.std.specs.Option.{option_map}
 use Rattle.std.proofs.lemmas.Bool.{cases_Bool, eq-eqb}
-use Rattle.std.proofs.lemmas.Option.{slice_get-map, slice_get_cases, slice_get_past, slice_get_within, get_or_from_slice_get}
+use Rattle.std.proofs.lemmas.Option.{slice_get-map, slice_get_cases, slice_get_past}
 use Rattle.std.proofs.lemmas.List.Elements.{All-nil, All-cons, All-head, All-tail, All-append, All-weaker}
 use Rattle.gpi_values.specs.declared.gpi.Gpi.{Gpi}
 use Rattle.gpt_descriptors.specs.Sizes.{granule_bytes, space_granules}
@@ -24,9 +24,7 @@ use Rattle.delegate_ops.specs.Script.{CallEvent, AreCallEvents}
 use Rattle.core_machine.specs.declared.caller.Caller.{Caller}
 use Rattle.core_machine.specs.declared.caller.Caller.TheVariants as caller
 use Rattle.core_machine.specs.InnerCallers.{caller_answers, own_of}
-use Rattle.core_machine.specs.InnerCounted.{caller_tasks}
 use Rattle.core_machine.specs.InnerHistory.{AreAllowed, IsHistoryOf}
-use Rattle.core_machine.specs.InnerInvariant.{IsMade}
 use Rattle.core_machine.proofs.AloneLemmas.{own_first}
 use Rattle.core_machine.proofs.LoadActs.{length_after}
 use Rattle.core_machine.proofs.EntryLemmas.{IsOwnEntry, call_allowed, IsPrefixFit, prefix_fits, prefix_allowed}

@@ -2,13 +2,14 @@ pub mod ListLemmas
 pub mod LockLemmas
 pub mod TableLemmas
 pub mod ChangeLemmas
+pub mod WordLemmas
 pub mod OthersLemmas
 pub mod ToldLemmas
 pub mod OpenedLemmas
 pub mod RaisedLemmas
 pub mod AloneLemmas
 pub mod CountedLemmas
-pub mod IdleLemmas
+pub mod StepLemmas
 pub mod ActLemmas
 pub mod LockActs
 pub mod LoadActs

@@ -1,5 +1,5 @@
 -- Lists: one item is set, two stand in a row, one stands alone.
-use Rattle.std.proofs.Common.{◌≡◌, ◌≢◌, ℕ, zero, suc, ◌+◌, ◌<◌, ◌++◌, ◌∷◌, [], ◌⊎◌, length, List, Bool, cond, Some, get_or, set, refl, sym, ap, ◌∙◌, arith, inl, inr}
+use Rattle.std.proofs.Common.{◌≡◌, ◌≢◌, ℕ, zero, suc, ◌+◌, ◌<◌, ◌++◌, ◌∷◌, [], ◌⊎◌, length, List, Bool, cond, Some, get_or, set, refl, sym, ap, ◌∙◌, subst, arith, inl, inr}
 use Rattle.std.specs.Prelude.{slice_get}
 use Rattle.std.specs.List.{All, count_by}
 use Rattle.std.proofs.lemmas.List.Elements.{All-nil, All-cons}
@@ -16,6 +16,14 @@ get_set (w ∷ xs) (suc c) (suc d) x y e =
     elim (get_set xs c d x y e) [
       | inl here ↦ inl (ap suc here.0, here.1)
       | inr there ↦ inr (λ same. there.0 (omega (arith, same)), there.1)
+    ]
+
+-- what holds of the new item and of each other one
+pub each_set : {X : Type 0} (P : ℕ → X → Type 0) (xs : List X) (c : ℕ) (x : X) → P c x → ((d : ℕ) (y : X) → d ≢ c → slice_get xs d ≡ Some y → P d y) → (d : ℕ) (y : X) → slice_get (set xs c x) d ≡ Some y → P d y
+each_set P xs c x here away d y there =
+    elim (get_set xs c d x y there) [
+      | inl same ↦ subst (P d) same.1 (subst (λ (n : ℕ). P n x) (sym same.0) here)
+      | inr other ↦ away d y other.0 other.1
     ]
 
 pub get_set_same : {X : Type 0} (xs : List X) (c : ℕ) (x : X) → c < length xs → slice_get (set xs c x) c ≡ Some x

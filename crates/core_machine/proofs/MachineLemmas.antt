@@ -40,18 +40,22 @@ use Rattle.core_machine.specs.InnerOpening.{IsFresh, AreStarting}
 use Rattle.core_machine.specs.InnerMachine.{MachineData, InvariantFor, after_act_of, act_entries_of, after_turn_of, turn_entries_of, after_turn, turn_entries, after_turns, entries_in}
 use Rattle.core_machine.proofs.ListLemmas.{one}
 use Rattle.core_machine.proofs.ToldLemmas.{idle_entries}
+use Rattle.core_machine.specs.InnerScene.{Scene}
 use Rattle.core_machine.proofs.LawLemmas.{one_act}
 use Rattle.core_machine.specs.Facts.{IsCounted}
 use Rattle.core_machine.specs.Scenarios.{round_turns}
-use Rattle.history.specs.States.{start}
 use Rattle.delegate_ops.specs.InnerScript.{HasWalked}
 
 -- ---- one turn
 
+-- a machine as a scene
+abbrev pub scene_of : List Gpi → MachineData → List Entry → Scene
+scene_of first m h = record { first = first; words = m.words; callers = m.callers; history = h }
+
 act_stands : (first : List Gpi) (m : MachineData) (h : List Entry) (c : ℕ) (a : Caller) (o : Option Act) → InvariantFor first m h → slice_get m.callers c ≡ Some a → caller_next a ≡ o
     → InvariantFor first (after_act_of m c a o) (h ++ act_entries_of m c a o)
 act_stands first m h c a None stands at next = rw (append-nil h) stands
-act_stands first m h c a (Some t) stands at next = (one_act m.geometry first m.words m.callers h c a t stands at next).2
+act_stands first m h c a (Some t) stands at next = (one_act m.geometry (scene_of first m h) c a t stands at next).2
 
 turn_stands_of : (first : List Gpi) (m : MachineData) (h : List Entry) (c : ℕ) (o : Option Caller) → InvariantFor first m h → slice_get m.callers c ≡ o
     → InvariantFor first (after_turn_of m c o) (h ++ turn_entries_of m c o)
@@ -71,7 +75,7 @@ found_at (x ∷ callers) (suc c) a within here = found_at callers c a (omega (ar
 pub may_act : (first : List Gpi) (h : List Entry) (m : MachineData) (c : ℕ) (a : Caller) (t : Act) → InvariantFor first m h → c < length m.callers → a ≡ get_or m.callers c a → caller_next a ≡ Some t
     → (place_in t < length m.words) × MayTake a (answer_of t m.words)
 may_act first h m c a t stands within here next =
-    let kept = one_act m.geometry first m.words m.callers h c a t stands (found_at m.callers c a within here) next in
+    let kept = one_act m.geometry (scene_of first m h) c a t stands (found_at m.callers c a within here) next in
     (kept.0, kept.1)
 
 pub acted : (m : MachineData) (c : ℕ) (a x : Caller) (t : Act) (old : ℕ) (words : List ℕ) → c < length m.callers → a ≡ get_or m.callers c a → caller_next a ≡ Some t

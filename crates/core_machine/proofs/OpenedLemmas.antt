@@ -1,5 +1,5 @@
 -- What is open: how a change and its third raise alter it.
-use Rattle.std.proofs.Common.{◌≡◌, ◌≢◌, ℕ, zero, suc, ◌<◌, ◌++◌, ◌∷◌, [], List, true, false, eqb, Option, Some, None, set, refl, sym, ap, ◌∙◌, subst, arith, inl, inr, append-nil}
+use Rattle.std.proofs.Common.{◌≡◌, ◌≢◌, ℕ, zero, suc, ◌<◌, ◌++◌, ◌∷◌, [], List, true, false, eqb, Option, Some, set, refl, sym, ap, ◌∙◌, subst, arith, inl, inr, append-nil}
 use Rattle.std.specs.Prelude.{slice_get}
 use Rattle.std.specs.List.{flat_map, list_any}
 use Rattle.std.proofs.lemmas.Bool.{cases_Bool, cases_eq, eq-eqb, eqb-true, ne_eqb}
@@ -64,13 +64,7 @@ pairs_there granule callers c a x at others =
 
 none_at : (g : GeometryData) (s : Stage) (o : Option Task) (granule : ℕ) → ((u : Task) → o ≡ Some u → is_inside s ≡ true → granule_of_task g u ≢ granule) → pairs_of granule (open_at g s o) ≡ []
 none_at g (stage.Raising c z k) (Some u) granule apart = rw (ne_eqb _ _ (apart u refl refl)) refl
-none_at g (stage.Raising c z k) None granule apart = refl
-none_at g stage.Locking o granule apart = refl
-none_at g stage.Looking o granule apart = refl
-none_at g (stage.Reading z k) o granule apart = refl
-none_at g (stage.Changing c k) o granule apart = refl
-none_at g (stage.Releasing given) o granule apart = refl
-none_at g stage.Stopped o granule apart = refl
+none_at g s o granule apart = refl
 
 -- the others hold nothing of a holder's granule open
 pub others_closed : (g : GeometryData) (words : List ℕ) (callers : List Caller) (c d : ℕ) (a : AgentData) (t : Task) (y : Caller) → LocksAreHeld words callers → lock_number g.setup (address_of t) < 128

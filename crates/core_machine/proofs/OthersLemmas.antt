@@ -1,36 +1,29 @@
 -- Others: two callers that hold their locks act on different lock blocks, and so on different words.
-use Rattle.std.proofs.Common.{◌≡◌, ◌≢◌, ℕ, zero, suc, ◌+◌, ◌*◌, ◌/◌, ◌%◌, ◌^◌, ◌≤◌, ◌<◌, ◌∷◌, [], List, Bool, true, false, eqb, Option, Some, None, set, refl, sym, ap, ◌∙◌, subst, arith, inl, inr, mul_comm}
+use Rattle.std.proofs.Common.{◌≡◌, ◌≢◌, ℕ, zero, suc, ◌+◌, ◌*◌, ◌/◌, ◌%◌, ◌≤◌, ◌<◌, ◌∷◌, [], List, Bool, true, false, eqb, Option, Some, None, refl, sym, ap, ◌∙◌, subst, arith, inl, inr}
 use Rattle.std.specs.Prelude.{slice_get, slice_index}
 use Rattle.std.specs.List.{count_by}
-use Rattle.std.specs.Option.{option_map}
-use Rattle.std.proofs.Math.Nat.{div-div-eq-div-mul}
-use Rattle.std.proofs.lemmas.Bool.{cases_Bool, cases_eq, eq-eqb}
-use Rattle.std.proofs.lemmas.List.{get_or-set_other}
+use Rattle.std.proofs.lemmas.Bool.{cases_eq, eq-eqb}
 use Rattle.std.proofs.lemmas.List.Sums.{sum_by-cons}
 use Rattle.std.proofs.lemmas.Nat.Bits.{bit_at-lt}
 use Rattle.std.proofs.lemmas.Option.{slice_get_within, get_or_from_slice_get}
 use Rattle.gpt_descriptors.specs.declared.size.Size.{Size}
-use Rattle.gpt_descriptors.specs.declared.size.Size.TheVariants as size
-use Rattle.gpt_descriptors.specs.Sizes.{SetupData, granule_bytes, word_bytes, words_of, size_bytes, space_bytes}
-use Rattle.gpt_descriptors.specs.Places.{GeometryData, IsGeometry, Generation, Level1, place_of, l0_words, gen_place_of, l1_index_of, l1_place_of}
-use Rattle.gpt_descriptors.proofs.SizeLemmas.{words_whole}
-use Rattle.gpt_descriptors.proofs.PlaceLemmas.{place_distinct, generation_named, index_within, l1_index_one}
+use Rattle.gpt_descriptors.specs.Sizes.{granule_bytes, size_bytes}
+use Rattle.gpt_descriptors.specs.Places.{GeometryData, IsGeometry, WordName}
 use Rattle.bit_locks.specs.Locks.{lock_number}
 use Rattle.history.specs.declared.call.Task.{Task}
 use Rattle.history.specs.Counts.{region_of}
-use Rattle.delegate_ops.specs.declared.stage.Stage.{Stage}
-use Rattle.delegate_ops.specs.declared.stage.Stage.TheVariants as stage
 use Rattle.delegate_ops.specs.Deciding.{address_of, idle_answer}
 use Rattle.delegate_ops.specs.InnerAgents.{AgentData, HasActs, task_of}
-use Rattle.delegate_ops.proofs.DecidingLemmas.{acts_usable}
+use Rattle.delegate_ops.proofs.DecidingLemmas.{acts_usable, acts_inside}
 use Rattle.core_machine.specs.declared.caller.Caller.{Caller}
 use Rattle.core_machine.specs.declared.caller.Caller.TheVariants as caller
 use Rattle.core_machine.specs.InnerLocks.{is_inside, holds, LocksAreHeld}
-use Rattle.core_machine.specs.InnerSeen.{Sees, SeesAt, SeesWord}
+use Rattle.core_machine.specs.InnerSeen.{Sees}
 use Rattle.core_machine.specs.InnerInvariant.{IsMade, HasShape}
 use Rattle.core_machine.proofs.ListLemmas.{one}
 use Rattle.core_machine.proofs.LockLemmas.{some_pass}
 use Rattle.core_machine.proofs.TableLemmas.{granule_start, usable_aligned}
+use Rattle.core_machine.proofs.WordLemmas.{Writes, IsOfBlock, KeepsWords, words_kept, sees_left, number_by_region}
 use Rattle.delegate_ops.specs.Script.{granule_of_task}
 
 -- ---- two holders of one lock
@@ -81,110 +74,6 @@ count_alone p (x ∷ callers) (suc c) a at others =
     let here : one (p x) ≡ 0 = ap one (others 0 x (λ e. omega (arith, e)) refl) in
     omega (arith, counted, here, count_alone p callers c a at (λ d y apart there. others (suc d) y (λ e. apart (omega (arith, e))) there))
 
--- ---- addresses of one lock
-
-number_by_block : (s : SetupData) (p q : ℕ) → p / 2 ^ 29 ≡ q / 2 ^ 29 → lock_number s p ≡ lock_number s q
-number_by_block s p q same =
-    elim (cases_Bool (eqb s.lock_blocks 0)) [ inl none ↦ rw none refl | inr some ↦ rw some (ap (λ (b : ℕ). b / s.lock_blocks) same) ]
-
-wider : (p q n m : ℕ) → p / n ≡ q / n → p / (n * m) ≡ q / (n * m)
-wider p q n m same = sym (div-div-eq-div-mul p n m) ∙ ap (λ (b : ℕ). b / m) same ∙ div-div-eq-div-mul q n m
-
--- a region of any size lies in one lock block
-pub number_by_region : (s : SetupData) (y : Size) (p q : ℕ) → p / size_bytes y ≡ q / size_bytes y → lock_number s p ≡ lock_number s q
-number_by_region s size.Two p q same = number_by_block s p q (wider p q (2 ^ 21) 256 same)
-number_by_region s size.ThirtyTwo p q same = number_by_block s p q (wider p q (2 ^ 25) 16 same)
-number_by_region s size.FiveTwelve p q same = number_by_block s p q same
-
--- and so does an L1 word
-pub number_by_word : (s : SetupData) (p q : ℕ) → p / word_bytes s ≡ q / word_bytes s → lock_number s p ≡ lock_number s q
-number_by_word s p q same =
-    let whole : word_bytes s * words_of s size.FiveTwelve ≡ 2 ^ 29 = mul_comm (word_bytes s) (words_of s size.FiveTwelve) ∙ words_whole s size.FiveTwelve in
-    number_by_block s p q (subst (λ (n : ℕ). p / n ≡ q / n) whole (wider p q (word_bytes s) (words_of s size.FiveTwelve) same))
-
--- ---- words of different lock blocks
-
--- no word that a task's caller keeps stands at this place
-pub record Apart (g : GeometryData) (p : ℕ) (t : Task) : Type 0 where
-  pub word : (place : ℕ) → l1_place_of g (address_of t) ≡ Some place → p ≢ place
-  pub generations : (y : Size) → p ≢ gen_place_of g y (address_of t)
-
-word_place : (g : GeometryData) (pa place : ℕ) (o : Option ℕ) → l1_index_of g pa ≡ o → option_map (λ i. place_of g (Level1 i)) o ≡ Some place → (i : ℕ) × (l1_index_of g pa ≡ Some i) × (place ≡ place_of g (Level1 i))
-word_place g pa place None index there = absurd cc
-word_place g pa place (Some i) index there = (i, index, cc)
-
--- the index of the L1 word at a place
-pub index_at : (g : GeometryData) (pa place : ℕ) → l1_place_of g pa ≡ Some place → (i : ℕ) × (l1_index_of g pa ≡ Some i) × (place ≡ place_of g (Level1 i))
-index_at g pa place there = word_place g pa place (l1_index_of g pa) refl there
-
-pub generation_low : (g : GeometryData) (y : Size) (block : ℕ) → 2 ≤ place_of g (Generation y block)
-generation_low g size.Two block = omega arith
-generation_low g size.ThirtyTwo block = omega arith
-generation_low g size.FiveTwelve block = omega arith
-
-pub lock_apart : (g : GeometryData) (p : ℕ) (t : Task) → p < 2 → Apart g p t
-lock_apart g p t low = record {
-  word = λ place there same. let at = index_at g (address_of t) place there in omega (arith, low, same, at.2);
-  generations = λ y same. omega (arith, low, same, generation_low g y (address_of t / size_bytes y));
-}
-
-pub generation_apart : (g : GeometryData) (z : Size) (pa : ℕ) (t : Task) → IsGeometry g → pa < space_bytes g.setup → address_of t < space_bytes g.setup → lock_number g.setup (address_of t) ≢ lock_number g.setup pa
-    → Apart g (gen_place_of g z pa) t
-generation_apart g z pa t geometry inside within apart = record {
-  word = λ place there same.
-      let at = index_at g (address_of t) place there in
-      let names : Generation z (pa / size_bytes z) ≡ Level1 at.0 =
-      place_distinct g (Generation z (pa / size_bytes z)) (Level1 at.0) (generation_named g z pa inside) (index_within g (address_of t) at.0 geometry at.1) (same ∙ at.2) in
-      absurd cc;
-  generations = λ y same.
-      let names : Generation z (pa / size_bytes z) ≡ Generation y (address_of t / size_bytes y) =
-      place_distinct g (Generation z (pa / size_bytes z)) (Generation y (address_of t / size_bytes y)) (generation_named g z pa inside) (generation_named g y (address_of t) within) same in
-      let size_same : z ≡ y = cc in
-      let block_same : pa / size_bytes z ≡ address_of t / size_bytes y = cc in
-      apart (number_by_region g.setup y (address_of t) pa (sym block_same ∙ ap (λ (x : Size). pa / size_bytes x) size_same));
-}
-
-pub word_apart : (g : GeometryData) (pa i : ℕ) (t : Task) → IsGeometry g → address_of t < space_bytes g.setup → l1_index_of g pa ≡ Some i → lock_number g.setup (address_of t) ≢ lock_number g.setup pa
-    → Apart g (place_of g (Level1 i)) t
-word_apart g pa i t geometry within index apart = record {
-  word = λ place there same.
-      let at = index_at g (address_of t) place there in
-      let names : Level1 i ≡ Level1 at.0 =
-      place_distinct g (Level1 i) (Level1 at.0) (index_within g pa i geometry index) (index_within g (address_of t) at.0 geometry at.1) (same ∙ at.2) in
-      let index_same : i ≡ at.0 = cc in
-      apart (number_by_word g.setup (address_of t) pa (l1_index_one g.setup (l0_words g) _ _ i (at.1 ∙ ap Some (sym index_same)) index));
-  generations = λ y same.
-      let names : Level1 i ≡ Generation y (address_of t / size_bytes y) =
-      place_distinct g (Level1 i) (Generation y (address_of t / size_bytes y)) (index_within g pa i geometry index) (generation_named g y (address_of t) within) same in
-      absurd cc;
-}
-
--- ---- what others keep
-
-word_stays : (g : GeometryData) (words : List ℕ) (p v : ℕ) (t : Task) (word : ℕ) (found : Option _) → Apart g p t → SeesWord g words t word found → SeesWord g (set words p v) t word found
-word_stays g words p v t word found apart sees = record {
-  stands = λ place there. get_or-set_other words p place v 0 (λ same. apart.word place there (sym same)) ∙ sees.stands place there;
-  gives = sees.gives;
-}
-
-pub seen_stays : (g : GeometryData) (words : List ℕ) (p v : ℕ) (s : Stage) (o : Option Task) → ((t : Task) → o ≡ Some t → is_inside s ≡ true → Apart g p t) → SeesAt g words s o → SeesAt g (set words p v) s o
-seen_stays g words p v (stage.Reading z k) (Some t) apart sees =
-    let away = apart t refl refl in
-    record { word = word_stays g words p v t k.word _ away sees.word; generations = λ y before. get_or-set_other words p _ v 0 (λ same. away.generations y (sym same)) ∙ sees.generations y before }
-seen_stays g words p v (stage.Changing c k) (Some t) apart sees =
-    let away = apart t refl refl in
-    record { word = word_stays g words p v t k.word _ away sees.word; granules = sees.granules; generations = λ y. get_or-set_other words p _ v 0 (λ same. away.generations y (sym same)) ∙ sees.generations y }
-seen_stays g words p v (stage.Raising c z k) (Some t) apart sees =
-    let away = apart t refl refl in
-    record { word = word_stays g words p v t k.word _ away sees.word; granules = sees.granules; generations = λ y. get_or-set_other words p _ v 0 (λ same. away.generations y (sym same)) ∙ sees.generations y }
-seen_stays g words p v (stage.Reading z k) None apart sees = tt
-seen_stays g words p v (stage.Changing c k) None apart sees = tt
-seen_stays g words p v (stage.Raising c z k) None apart sees = tt
-seen_stays g words p v stage.Locking o apart sees = tt
-seen_stays g words p v stage.Looking o apart sees = tt
-seen_stays g words p v (stage.Releasing given) o apart sees = tt
-seen_stays g words p v stage.Stopped o apart sees = tt
-
 -- ---- a holder and another caller inside
 
 -- the caller at c is an agent inside a task with acts, and so holds its lock
@@ -222,13 +111,15 @@ is_holder g callers d b u at made under_way inside = record {
   acts = subst (λ (k : GeometryData). idle_answer k u ≡ None) made.0 (subst (HasActs b.geometry) under_way made.1.acts);
 }
 
--- the others keep what they see, where a word is written that belongs to another lock block or to none
-pub others_see : (g : GeometryData) (words : List ℕ) (callers : List Caller) (d p v : ℕ) (y : Caller) → IsMade g y → slice_get callers d ≡ Some y
-    → ((b : AgentData) (u : Task) → Holder g callers d b u → Apart g p u) → Sees words y → Sees (set words p v) y
-others_see g words callers d p v (caller.Cpu looks) made at apart sees = tt
-others_see g words callers d p v (caller.Agent b) made at apart sees =
-    seen_stays b.geometry words p v b.stage (task_of b)
-    (λ u under_way inside. subst (λ (k : GeometryData). Apart k p u) (sym made.0) (apart b u (is_holder g callers d b u at made under_way inside))) sees
+-- the others keep what they see, where a word is written that is of another lock block or of none
+pub others_see : {g : GeometryData} {words : List ℕ} {n : Option WordName} {after : List ℕ} (callers : List Caller) (d m : ℕ) (y : Caller) → Writes g words n after → IsOfBlock g m n → IsGeometry g → IsMade g y → slice_get callers d ≡ Some y
+    → ((b : AgentData) (u : Task) → Holder g callers d b u → lock_number g.setup (address_of u) ≢ m) → Sees words y → Sees after y
+others_see callers d m (caller.Cpu looks) writes of geometry made at apart sees = tt
+others_see {g = g} {words = words} {after = after} callers d m (caller.Agent b) writes of geometry made at apart sees =
+    sees_left b.geometry words after b.stage (task_of b)
+    (λ u under_way inside.
+    let theirs = is_holder g callers d b u at made under_way inside in
+    subst (λ (k : GeometryData). KeepsWords k words after u) (sym made.0) (words_kept m u writes of geometry (acts_inside g u theirs.acts) (apart b u theirs))) sees
 
 -- ---- granules and regions of different lock blocks
 

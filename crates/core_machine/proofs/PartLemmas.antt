@@ -1,21 +1,20 @@
 -- The tables among the shared words mean the map.
-use Rattle.std.proofs.Common.{◌≡◌, ℕ, ◌+◌, ◌*◌, ◌/◌, ◌%◌, ◌<◌, ◌≤◌, List, length, take, drop, Option, Some, None, refl, sym, ap, ◌∙◌, subst, arith, length-drop}
+use Rattle.std.proofs.Common.{◌≡◌, ℕ, ◌+◌, ◌*◌, ◌/◌, ◌%◌, ◌<◌, List, length, drop, Some, None, sym, ap, ◌∙◌, subst, arith, length-drop}
 use Rattle.std.specs.Prelude.{slice_get, slice_index}
 use Rattle.std.specs.Option.{option_map}
 use Rattle.std.proofs.lemmas.List.{get_or-take, get_or-drop, length-take}
 use Rattle.std.proofs.lemmas.Option.{slice_get-get_or}
 use Rattle.gpi_values.specs.declared.gpi.Gpi.{Gpi}
 use Rattle.gpi_values.specs.declared.gpi.Gpi.TheVariants as gpi
-use Rattle.gpt_descriptors.specs.declared.entry.L1Entry.{L1Entry}
 use Rattle.gpt_descriptors.specs.declared.size.MaxBlock.TheVariants as most
-use Rattle.gpt_descriptors.specs.Sizes.{SetupData, granule_bytes, word_bytes, table_words, region_bytes, space_granules}
+use Rattle.gpt_descriptors.specs.Sizes.{granule_bytes, table_words, region_bytes, space_granules}
 use Rattle.gpt_descriptors.specs.Entries.{l0_entry, l1_entry, word_gpi}
-use Rattle.gpt_descriptors.specs.Level0.{table_count, l1_index}
+use Rattle.gpt_descriptors.specs.Level0.{l1_index}
 use Rattle.gpt_descriptors.specs.Places.{GeometryData, IsGeometry, Level1, place_of, l0_words, l1_words, l1_index_of, l1_place_of, block_gpi_in, word_count}
 use Rattle.gpt_descriptors.proofs.PlaceLemmas.{l1_index_within, region_of_word}
-use Rattle.table_meaning.specs.Meaning.{TablesMean, BlocksMean, AreCanonical as CanonicalTables}
+use Rattle.table_meaning.specs.Meaning.{TablesMean, AreCanonical as CanonicalTables}
 use Rattle.delegate_ops.specs.Deciding.{granule_place}
-use Rattle.core_machine.specs.InnerTables.{gpi_by, table_gpi, table_word, MeansMap, CoverEqual, AreCanonical}
+use Rattle.core_machine.specs.InnerTables.{gpi_by, table_word, MeansMap}
 use Rattle.core_machine.specs.Scenarios.{map_at}
 use Rattle.core_machine.specs.Facts.{table_part}
 use Rattle.core_machine.proofs.ChangeLemmas.{means_covers, means_canonical}

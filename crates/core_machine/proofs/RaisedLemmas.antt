@@ -48,12 +48,7 @@ due_apart g (stage.Raising c z k) (Some u) y region apart =
     ]
 due_apart g (stage.Raising c z k) None y region apart =
     elim (cases_Bool (is_due_at (stage.Raising c z k) y)) [ inl due ↦ rw due refl | inr raised ↦ rw raised refl ]
-due_apart g stage.Locking o y region apart = refl
-due_apart g stage.Looking o y region apart = refl
-due_apart g (stage.Reading z k) o y region apart = refl
-due_apart g (stage.Changing c k) o y region apart = refl
-due_apart g (stage.Releasing given) o y region apart = refl
-due_apart g stage.Stopped o y region apart = refl
+due_apart g s o y region apart = refl
 
 pub others_raised : (g : GeometryData) (words : List ℕ) (callers : List Caller) (c d : ℕ) (a : AgentData) (t : Task) (y : Size) (z : Caller) → LocksAreHeld words callers → lock_number g.setup (address_of t) < 128
     → Holder g callers c a t → d ≢ c → slice_get callers d ≡ Some z → IsMade g z → is_due y (region_of (granule_bytes g.setup) y (granule_of_task g t)) z ≡ false

@@ -1,23 +1,20 @@
 -- What a run leaves: its trace, and what answers and words are for the trace's history.
-use Rattle.std.proofs.Common.{◌≡◌, ◌≢◌, ℕ, zero, suc, ◌+◌, ◌*◌, ◌/◌, ◌<◌, ◌≤◌, not, ◌⊎◌, ◌++◌, ◌∷◌, [], List, Bool, true, false, ◌&&◌, eqb, map, length, Option, Some, None, refl, sym, ap, ◌∙◌, subst, arith, inl, inr, append_assoc, append-nil}
+use Rattle.std.proofs.Common.{◌≡◌, ◌≢◌, ℕ, zero, suc, ◌+◌, ◌*◌, ◌/◌, ◌<◌, ◌≤◌, not, ◌⊎◌, ◌∷◌, [], List, Bool, true, false, ◌&&◌, eqb, map, length, Option, Some, None, refl, sym, ap, ◌∙◌, subst, arith, inl, inr}
 use Rattle.std.specs.Prelude.{slice_get, is_some, Result, Ok, Err, IfOk}
 use Rattle.history.specs.declared.outcome.Outcome.{Outcome}
-use Rattle.std.specs.List.{All, count_by, filter}
+use Rattle.std.specs.List.{All, count_by}
 use Rattle.std.specs.Option.{option_map}
 use Rattle.std.proofs.Math.Nat.{mul-div_cancel}
-use Rattle.std.proofs.lemmas.Bool.{cases_Bool, eqb-true, eq-eqb, ne_eqb}
-use Rattle.std.proofs.lemmas.List.{length-map, map-append}
-use Rattle.std.proofs.lemmas.List.Elements.{filter-append}
+use Rattle.std.proofs.lemmas.Bool.{cases_Bool, eqb-true, ne_eqb}
+use Rattle.std.proofs.lemmas.List.{length-map}
 use Rattle.std.proofs.lemmas.List.Sums.{sum_by-cons}
 use Rattle.std.proofs.lemmas.List.Elements.{All-head, All-tail}
-use Rattle.std.proofs.lemmas.Option.{slice_get_cases, slice_get-map, slice_get_past, slice_get_within, get_or_from_slice_get}
-use Rattle.gpi_values.specs.declared.gpi.Gpi.{Gpi}
+use Rattle.std.proofs.lemmas.Option.{slice_get_cases, slice_get-map, slice_get_past, slice_get_within}
 use Rattle.gpt_descriptors.specs.declared.size.Size.{Size}
 use Rattle.gpt_descriptors.specs.declared.size.Size.TheVariants as size
 use Rattle.gpt_descriptors.specs.Sizes.{granule_bytes, size_bytes, space_granules}
 use Rattle.gpt_descriptors.specs.Places.{GeometryData, blocks_in_region}
 use Rattle.shared_words.specs.declared.act.Act.{Act}
-use Rattle.shared_words.specs.Acts.{answer_of}
 use Rattle.bit_locks.specs.Locks.{lock_number, lock_bit}
 use Rattle.scenario_text.specs.declared.scenario.Scenario.{Scenario}
 use Rattle.scenario_text.specs.declared.scenario.Script.{Script}
@@ -25,32 +22,33 @@ use Rattle.scenario_text.specs.declared.scenario.Script.TheVariants as script
 use Rattle.history.specs.declared.call.Task.{Task}
 use Rattle.history.specs.declared.call.Answer.{Answer}
 use Rattle.history.specs.declared.entry.Entry.{Entry}
-use Rattle.history.specs.States.{start, state_after}
+use Rattle.history.specs.States.{start}
 use Rattle.history.specs.Calls.{task_at, answer_at}
 use Rattle.history.specs.Counts.{region_of, count_of}
 use Rattle.delegate_ops.specs.declared.stage.Stage.{Stage}
 use Rattle.delegate_ops.specs.declared.stage.Stage.TheVariants as stage
 use Rattle.delegate_ops.specs.Deciding.{address_of, HasCause}
-use Rattle.delegate_ops.specs.InnerAgents.{AgentData, fresh, task_of, took_of, IsAgent, has_ended, next_of}
+use Rattle.delegate_ops.specs.InnerAgents.{AgentData, fresh, task_of, IsAgent, has_ended, next_of}
 use Rattle.delegate_ops.proofs.DecidingLemmas.{acts_inside}
-use Rattle.delegate_ops.specs.Script.{CallEvent, granule_of_task, Follows, HasStopped}
+use Rattle.delegate_ops.specs.Script.{granule_of_task, Follows, HasStopped}
 use Rattle.delegate_ops.proofs.ScriptLemmas.{some_mapped}
 use Rattle.core_machine.specs.declared.caller.Caller.{Caller}
 use Rattle.core_machine.specs.declared.caller.Caller.TheVariants as caller
-use Rattle.core_machine.specs.InnerCallers.{caller_next, caller_took, caller_answers, caller_left}
+use Rattle.core_machine.specs.InnerCallers.{caller_next, caller_answers}
 use Rattle.core_machine.specs.InnerLocks.{is_inside, holds}
 use Rattle.core_machine.specs.InnerRaised.{is_due_at, is_around, is_due}
 use Rattle.core_machine.specs.InnerCounted.{coming_at, caller_tasks}
-use Rattle.core_machine.specs.InnerInvariant.{IsMade, Invariant}
-use Rattle.core_machine.specs.InnerMachine.{MachineData, InvariantFor, after_act_of, event_of, after_turn_of, turn_event_of, turn_entries, after_turn, after_turns, trace_of, entries_in}
+use Rattle.core_machine.specs.InnerInvariant.{IsMade}
+use Rattle.core_machine.specs.InnerMachine.{InvariantFor, entries_in}
 use Rattle.core_machine.specs.InnerPlay.{caller_of, opening_of, played, outcome_of, played_trace}
-use Rattle.core_machine.proofs.ListLemmas.{one, get_set, get_front}
+use Rattle.core_machine.proofs.ListLemmas.{one, get_front}
 use Rattle.core_machine.proofs.LockLemmas.{holder_bit}
-use Rattle.core_machine.proofs.OthersLemmas.{Holder, made_at_place, is_holder, holder_has, count_alone, count_none, number_by_region, region_at}
+use Rattle.core_machine.proofs.OthersLemmas.{Holder, made_at_place, is_holder, holder_has, count_alone, count_none, region_at}
+use Rattle.core_machine.proofs.WordLemmas.{number_by_region}
 use Rattle.core_machine.proofs.RaisedLemmas.{others_raised}
 use Rattle.core_machine.proofs.ActLemmas.{lock_low}
 use Rattle.core_machine.proofs.LoadActs.{state_length}
-use Rattle.core_machine.proofs.MachineLemmas.{turns_hold}
+use Rattle.core_machine.proofs.MachineLemmas.{turns_hold, scene_of}
 use Rattle.core_machine.proofs.TraceLemmas.{played_walked, trace_entries, trace_words, trace_answered, IsDone, done_stays, turns_taken, trace_known, trace_counts}
 use Rattle.core_machine.proofs.AnswerLemmas.{calls_cause, alone_told, worn_told}
 use Rattle.core_machine.proofs.PartLemmas.{tables_told, canonical_told}
@@ -65,6 +63,7 @@ use Rattle.core_machine.specs.Facts.{IsCounted, generation_word, FitsHistory}
 use Rattle.core_machine.specs.Trace.{TraceEvent, events_of, FollowsScript, HasEnded, IsTrace, answers_by, history_of}
 use Rattle.core_machine.specs.Scenarios.{first_map, geometry_of, task_of_ask, tasks_of, turns_in, first_words}
 use Rattle.core_machine.specs.Run.{IsRun}
+use Rattle.core_machine.specs.InnerScene.{Scene, state_in, HoldsIn}
 
 -- ---- tasks
 
@@ -107,10 +106,10 @@ answered_at (caller.Agent a ∷ callers) zero k given answered = (a, refl, answe
 answered_at (caller.Cpu looks ∷ callers) zero k given answered = absurd cc
 answered_at (x ∷ callers) (suc c) k given answered = answered_at callers c k given answered
 
-pub counts_told : (g : GeometryData) (first : List Gpi) (words : List ℕ) (callers : List Caller) (h : List Entry) (tasks : List (List Task)) → Invariant g first words callers h → HaveTasks tasks callers
-    → (c k : ℕ) (t : Task) (given : Answer) → task_at tasks c k ≡ Some t → answer_at (map caller_answers callers) c k ≡ Some given → IsCounted g c k t given h
-counts_told g first words callers h tasks stands have c k t given asked answered =
-    let own = answered_at callers c k given answered in
+pub counts_told : (g : GeometryData) (s : Scene) (tasks : List (List Task)) → HoldsIn g s → HaveTasks tasks s.callers
+    → (c k : ℕ) (t : Task) (given : Answer) → task_at tasks c k ≡ Some t → answer_at (map caller_answers s.callers) c k ≡ Some given → IsCounted g c k t given s.history
+counts_told g s tasks stands have c k t given asked answered =
+    let own = answered_at s.callers c k given answered in
     let task : slice_get own.0.tasks k ≡ Some t = rw (have c own.0 own.1) at asked in
     stands.counted c k (caller.Agent own.0) t given own.1 task (get_front own.0.answers (coming_at own.0.stage) k given own.2)
 
@@ -138,12 +137,7 @@ due_task g (stage.Raising c z k) (Some t) y region due =
     ]
 due_task g (stage.Raising c z k) None y region due =
     absurd (elim (cases_Bool (is_due_at (stage.Raising c z k) y)) [ inl is ↦ (let both : false ≡ true = rw is at due in cc) | inr not_it ↦ (let both : false ≡ true = rw not_it at due in cc) ])
-due_task g stage.Locking o y region due = absurd cc
-due_task g stage.Looking o y region due = absurd cc
-due_task g (stage.Reading z k) o y region due = absurd cc
-due_task g (stage.Changing c k) o y region due = absurd cc
-due_task g (stage.Releasing given) o y region due = absurd cc
-due_task g stage.Stopped o y region due = absurd cc
+due_task g s o y region due = absurd cc
 
 due_holder : (g : GeometryData) (callers : List Caller) (c : ℕ) (x : Caller) (y : Size) (region : ℕ) → slice_get callers c ≡ Some x → IsMade g x → is_due y region x ≡ true
     → (a : AgentData) × (t : Task) × Holder g callers c a t × (region_of (granule_bytes g.setup) y (granule_of_task g t) ≡ region) × (is_due y region (caller.Agent a) ≡ true)
@@ -157,30 +151,30 @@ size_some size.Two = omega arith
 size_some size.ThirtyTwo = omega arith
 size_some size.FiveTwelve = omega arith
 
-pub generations_told : (g : GeometryData) (first : List Gpi) (words : List ℕ) (callers : List Caller) (h : List Entry) → Invariant g first words callers h → (y : Size) (region : ℕ) → region < blocks_in_region y * g.setup.gigabytes
-    → (generation_word g words y region ≡ count_of g.setup.first (granule_bytes g.setup) y region h)
-    ⊎ ((generation_word g words y region + 1 ≡ count_of g.setup.first (granule_bytes g.setup) y region h) × (lock_bit words (lock_number g.setup (region * size_bytes y)) ≡ 1))
-generations_told g first words callers h stands y region within =
-    elim (some_or_none (is_due y region) callers) [
+pub generations_told : (g : GeometryData) (s : Scene) → HoldsIn g s → (y : Size) (region : ℕ) → region < blocks_in_region y * g.setup.gigabytes
+    → (generation_word g s.words y region ≡ count_of g.setup.first (granule_bytes g.setup) y region s.history)
+    ⊎ ((generation_word g s.words y region + 1 ≡ count_of g.setup.first (granule_bytes g.setup) y region s.history) × (lock_bit s.words (lock_number g.setup (region * size_bytes y)) ≡ 1))
+generations_told g s stands y region within =
+    elim (some_or_none (is_due y region) s.callers) [
       | inl none ↦ inl (omega (arith, stands.generations y region within, none))
       | inr some ↦
-          (let made = made_at_place g first words callers some.0 some.1 stands.shape some.2 in
-          let owner = due_holder g callers some.0 some.1 y region some.2 made some.3 in
+          (let made = made_at_place g s.first s.words s.callers some.0 some.1 stands.shape some.2 in
+          let owner = due_holder g s.callers some.0 some.1 y region some.2 made some.3 in
           let holder = owner.2 in
           let pa = address_of owner.1 in
           let low : lock_number g.setup pa < 128 = lock_low g.setup pa stands.shape.geometry.setup (acts_inside g owner.1 holder.acts) in
           let region_is : pa / size_bytes y ≡ region = sym (region_at g y owner.1 holder.acts) ∙ owner.3 in
-          let due : count_by (is_due y region) callers ≡ one (is_due y region (caller.Agent owner.0)) =
-          count_alone (is_due y region) callers some.0 (caller.Agent owner.0) holder.at
+          let due : count_by (is_due y region) s.callers ≡ one (is_due y region (caller.Agent owner.0)) =
+          count_alone (is_due y region) s.callers some.0 (caller.Agent owner.0) holder.at
           (λ d z apart there.
           subst (λ (r : ℕ). is_due y r z ≡ false) owner.3
-          (others_raised g words callers some.0 d owner.0 owner.1 y z stands.locks low holder apart there (made_at_place g first words callers d z stands.shape there))) in
+          (others_raised g s.words s.callers some.0 d owner.0 owner.1 y z stands.locks low holder apart there (made_at_place g s.first s.words s.callers d z stands.shape there))) in
           let one_due : one (is_due y region (caller.Agent owner.0)) ≡ 1 = ap one owner.4 in
           let number : lock_number g.setup (region * size_bytes y) ≡ lock_number g.setup pa =
           number_by_region g.setup y (region * size_bytes y) pa (mul-div_cancel region (size_some y) ∙ sym region_is) in
           inr (
             omega (arith, stands.generations y region within, due, one_due),
-            ap (lock_bit words) number ∙ holder_bit words callers some.0 (lock_number g.setup pa) (caller.Agent owner.0) holder.at stands.locks low (holder_has g callers some.0 owner.0 owner.1 holder),
+            ap (lock_bit s.words) number ∙ holder_bit s.words s.callers some.0 (lock_number g.setup pa) (caller.Agent owner.0) holder.at stands.locks low (holder_has g s.callers some.0 owner.0 owner.1 holder),
           ))
     ]
 
@@ -207,12 +201,12 @@ all_answered tasks callers c (caller.Agent a) have at ended =
           (rw (answers_of_caller callers c (caller.Agent a) at) (slice_get_past a.answers (length a.answers) (omega arith))))
     ]
 
-pub locks_ended : (g : GeometryData) (first : List Gpi) (words : List ℕ) (callers : List Caller) (h : List Entry) (tasks : List (List Task)) → Invariant g first words callers h → HaveTasks tasks callers
-    → ((d k : ℕ) (t : Task) → task_at tasks d k ≡ Some t → answer_at (map caller_answers callers) d k ≡ None → ⊥) → (n : ℕ) → n < 128 → lock_bit words n ≡ 0
-locks_ended g first words callers h tasks stands have ended n below =
+pub locks_ended : (g : GeometryData) (s : Scene) (tasks : List (List Task)) → HoldsIn g s → HaveTasks tasks s.callers
+    → ((d k : ℕ) (t : Task) → task_at tasks d k ≡ Some t → answer_at (map caller_answers s.callers) d k ≡ None → ⊥) → (n : ℕ) → n < 128 → lock_bit s.words n ≡ 0
+locks_ended g s tasks stands have ended n below =
     stands.locks n below
-    ∙ count_none (holds n) callers
-    (λ d x there. holds_none n g x (made_at_place g first words callers d x stands.shape there) (all_answered tasks callers d x have there ended))
+    ∙ count_none (holds n) s.callers
+    (λ d x there. holds_none n g x (made_at_place g s.first s.words s.callers d x stands.shape there) (all_answered tasks s.callers d x have there ended))
 
 -- ---- causes
 
@@ -226,24 +220,24 @@ causes_told g callers tasks have made c k t given asked answered =
 
 -- ---- facts over plain data
 
-pub fits_history : (g : GeometryData) (first : List Gpi) (words : List ℕ) (callers : List Caller) (h : List Entry) (tasks : List (List Task)) → Invariant g first words callers h → HaveTasks tasks callers → AreMade g callers
-    → length tasks ≡ length callers → FitsHistory g first tasks (map caller_answers callers) words h
-fits_history g first words callers h tasks stands have made count =
-    let whole : length (state_after (start first) h).map ≡ space_granules g.setup = state_length (start first) h ∙ stands.shape.granules in
+pub fits_history : (g : GeometryData) (s : Scene) (tasks : List (List Task)) → HoldsIn g s → HaveTasks tasks s.callers → AreMade g s.callers → length tasks ≡ length s.callers
+    → FitsHistory g s.first tasks (map caller_answers s.callers) s.words s.history
+fits_history g s tasks stands have made count =
+    let whole : length (state_in s).map ≡ space_granules g.setup = state_length (start s.first) s.history ∙ stands.shape.granules in
     record {
-      many = length-map callers caller_answers ∙ sym count;
+      many = length-map s.callers caller_answers ∙ sym count;
       size = stands.shape.size;
-      legal = made_legal g first callers h tasks stands.history have made stands.shape.granules;
-      calls = made_calls g first callers h tasks stands.history have made count;
-      causes = λ c k t given asked answered transition. causes_told g callers tasks have made c k t given asked answered;
-      counts = counts_told g first words callers h tasks stands have;
-      worn = worn_told g first words callers h tasks stands have made;
+      legal = made_legal g s.first s.callers s.history tasks stands.history have made stands.shape.granules;
+      calls = made_calls g s.first s.callers s.history tasks stands.history have made count;
+      causes = λ c k t given asked answered transition. causes_told g s.callers tasks have made c k t given asked answered;
+      counts = counts_told g s tasks stands have;
+      worn = worn_told g s tasks stands have made;
       undisturbed = stands.undisturbed;
-      alone = alone_told g first words callers h stands made;
-      tables = tables_told g words (state_after (start first) h).map stands.shape.geometry stands.shape.size whole stands.tables;
-      canonical = canonical_told g words (state_after (start first) h).map stands.shape.geometry whole stands.tables;
-      generations = generations_told g first words callers h stands;
-      ended = locks_ended g first words callers h tasks stands have;
+      alone = alone_told g s stands made;
+      tables = tables_told g s.words (state_in s).map stands.shape.geometry stands.shape.size whole stands.tables;
+      canonical = canonical_told g s.words (state_in s).map stands.shape.geometry whole stands.tables;
+      generations = generations_told g s stands;
+      ended = locks_ended g s tasks stands have;
       duty = stands.idle.duty;
       lines = stands.idle.lines;
     }
@@ -359,16 +353,17 @@ opening_holds n g (script.Cpu looks ∷ scripts) =
 pub is_run : (s : Scenario) → InvariantFor (first_map s) (opening_of s) [] → IsRun s (outcome_of (played s)) (played_trace s)
 is_run s opening =
     let stands_so = turns_hold (first_map s) (opening_of s) [] (turns_in s) opening in
-    let stands : Invariant (geometry_of s) (first_map s) (played s).words (played s).callers (history_of (played_trace s)) =
-    subst (λ (h : List Entry). Invariant (geometry_of s) (first_map s) (played s).words (played s).callers h) (sym (trace_entries (opening_of s) (turns_in s)))
-    (subst (λ (g : GeometryData). Invariant g (first_map s) (played s).words (played s).callers (entries_in (opening_of s) (turns_in s))) (turns_geometry (opening_of s) (turns_in s)) stands_so) in
+    let end : Scene = scene_of (first_map s) (played s) (history_of (played_trace s)) in
+    let stands : HoldsIn (geometry_of s) end =
+    subst (λ (h : List Entry). HoldsIn (geometry_of s) (scene_of (first_map s) (played s) h)) (sym (trace_entries (opening_of s) (turns_in s)))
+    (subst (λ (g : GeometryData). HoldsIn g (scene_of (first_map s) (played s) (entries_in (opening_of s) (turns_in s)))) (turns_geometry (opening_of s) (turns_in s)) stands_so) in
     let made : AreMade (geometry_of s) (played s).callers = λ c a at.
     (let is = made_at_place (geometry_of s) (first_map s) (played s).words (played s).callers c (caller.Agent a) stands.shape at in
     (is.0, is.1, events_of c (played_trace s), played_walked s c a opening at)) in
     record {
       geometry = turns_geometry (opening_of s) (turns_in s);
       turns = is_trace s opening made;
-      fits = fits_history (geometry_of s) (first_map s) (played s).words (played s).callers (history_of (played_trace s)) (map tasks_of s.scripts) stands (have_tasks s) made (many_tasks s);
+      fits = fits_history (geometry_of s) end (map tasks_of s.scripts) stands (have_tasks s) made (many_tasks s);
       locks = λ n low.
           let counts = trace_counts n (first_map s) (opening_of s) [] (turns_in s) low opening in
           let free = opening.locks n low in

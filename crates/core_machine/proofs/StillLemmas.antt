@@ -1,5 +1,5 @@
 -- Turns that change nothing: those of a caller without a next act, and a wait after a wait.
-use Rattle.std.proofs.Common.{◌≡◌, ◌≢◌, ℕ, zero, suc, ◌+◌, ◌*◌, ◌/◌, ◌%◌, ◌^◌, ◌<◌, ◌≤◌, ◌-◌, ◌++◌, ◌∷◌, [], List, Bool, true, false, not, eqb, Option, Some, None, length, get_or, set, replicate, refl, sym, ap, ◌∙◌, subst, arith, inl, inr}
+use Rattle.std.proofs.Common.{◌≡◌, ◌≢◌, ℕ, zero, suc, ◌+◌, ◌*◌, ◌/◌, ◌%◌, ◌^◌, ◌<◌, ◌-◌, ◌∷◌, [], List, Bool, true, not, eqb, Option, Some, None, length, get_or, set, replicate, refl, sym, ap, ◌∙◌, subst, arith, inl, inr}
 use Rattle.std.specs.Prelude.{slice_get, slice_index}
 use Rattle.std.specs.Int.{bit_at}
 use Rattle.std.specs.Int.Bits.{bit_and, bit_or, or_add_and}
@@ -14,7 +14,6 @@ use Rattle.shared_words.specs.declared.act.Act.{Act}
 use Rattle.shared_words.specs.Acts.{answer_of, after_act}
 use Rattle.bit_locks.specs.Locks.{bit_with, take_act}
 use Rattle.history.specs.declared.call.Task.{Task}
-use Rattle.history.specs.declared.call.Answer.{Answer}
 use Rattle.delegate_ops.specs.declared.stage.Stage.{Stage}
 use Rattle.delegate_ops.specs.declared.stage.Stage.TheVariants as stage
 use Rattle.delegate_ops.specs.Script.{lock_bit_of}
@@ -57,13 +56,8 @@ waits_so a t stage.Locking old waited =
       | inl held ↦ record { locking = refl; held = held; after = rw held refl }
       | inr free ↦ absurd (let never = rw free at waited in cc)
     ]
-waits_so a t stage.Looking old waited = absurd cc
-waits_so a t (stage.Reading z k) old waited = absurd cc
-waits_so a t (stage.Changing ch k) old waited = absurd cc
-waits_so a t (stage.Raising ch z k) old waited = absurd cc
-waits_so a t (stage.Releasing None) old waited = absurd cc
 waits_so a t (stage.Releasing (Some answer)) old waited = absurd cc
-waits_so a t stage.Stopped old waited = absurd cc
+waits_so a t s old waited = absurd cc
 
 waiting_is : (a : AgentData) → a.waited ≡ true → waits_at a ≡ a
 waiting_is a waited =

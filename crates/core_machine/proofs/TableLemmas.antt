@@ -1,20 +1,17 @@
 -- The tables: what an act leaves of them, and what a loaded L1 word says.
-use Rattle.std.proofs.Common.{◌≡◌, ℕ, ◌+◌, ◌*◌, ◌/◌, ◌%◌, ◌^◌, ◌<◌, List, true, false, eqb, Option, Some, None, set, refl, sym, ap, ◌∙◌, subst, arith, inl, inr, mul_comm}
+use Rattle.std.proofs.Common.{◌≡◌, ℕ, ◌+◌, ◌*◌, ◌/◌, ◌%◌, ◌^◌, ◌<◌, List, true, false, eqb, Option, Some, None, refl, sym, ap, ◌∙◌, subst, arith, inl, inr, mul_comm}
 use Rattle.std.specs.Prelude.{slice_get, slice_index, is_some}
 use Rattle.std.proofs.Math.Nat.{mod-add-div, div-lt_iff_lt-mul, mul-div_cancel}
 use Rattle.std.proofs.lemmas.Bool.{cases_Bool, eqb-true}
-use Rattle.std.proofs.lemmas.List.{get_or-set_other}
 use Rattle.gpi_values.specs.declared.gpi.Gpi.{Gpi}
 use Rattle.gpt_descriptors.specs.declared.entry.L1Entry.{L1Entry}
-use Rattle.gpt_descriptors.specs.declared.size.Size.{Size}
-use Rattle.gpt_descriptors.specs.Sizes.{SetupData, granule_bytes, size_bytes, table_words, region_bytes, space_bytes, space_granules}
+use Rattle.gpt_descriptors.specs.Sizes.{SetupData, granule_bytes, table_words, region_bytes, space_bytes, space_granules}
 use Rattle.gpt_descriptors.specs.Entries.{l1_entry, word_gpi}
-use Rattle.gpt_descriptors.specs.Places.{GeometryData, IsGeometry, Generation, Level1, place_of, gen_place_of, l1_words, l1_index_of, l1_place_of}
+use Rattle.gpt_descriptors.specs.Places.{GeometryData, IsGeometry, l1_words, l1_index_of, l1_place_of}
 use Rattle.gpt_descriptors.proofs.SizeLemmas.{granule_low, word_is, table_whole}
-use Rattle.gpt_descriptors.proofs.PlaceLemmas.{index_within, place_distinct, generation_named}
+use Rattle.gpt_descriptors.proofs.PlaceLemmas.{index_within}
 use Rattle.delegate_ops.specs.Deciding.{granule_place, is_unusable}
 use Rattle.core_machine.specs.InnerTables.{gpi_by, table_gpi, table_word, MeansMap}
-use Rattle.history.specs.States.{start}
 
 -- ---- acts elsewhere
 
@@ -35,16 +32,6 @@ tables_keep g words after map geometry keeps means = record {
   permitted = λ i z gpi i_in entry. means.permitted i z gpi i_in (ap l1_entry (sym (keeps i i_in)) ∙ entry);
   bounded = λ i i_in. subst (λ (word : ℕ). word < 2 ^ 64) (sym (keeps i i_in)) (means.bounded i i_in);
 }
-
--- a generation word is no L1 word
-pub generations_apart : (g : GeometryData) (words : List ℕ) (z : Size) (pa word : ℕ) → pa < space_bytes g.setup → KeepsTables g words (set words (gen_place_of g z pa) word)
-generations_apart g words z pa word inside i within =
-    get_or-set_other words (gen_place_of g z pa) (place_of g (Level1 i)) word 0
-    (λ same. absurd (let names : Level1 i ≡ Generation z (pa / size_bytes z) = place_distinct g (Level1 i) (Generation z (pa / size_bytes z)) within (generation_named g z pa inside) same in cc))
-
--- the lock words come before all L1 words
-pub locks_apart : (g : GeometryData) (words : List ℕ) (p word : ℕ) → p < 2 → KeepsTables g words (set words p word)
-locks_apart g words p word low i within = get_or-set_other words p (place_of g (Level1 i)) word 0 (λ same. omega (arith, same, low))
 
 -- ---- granules
 

@@ -1,58 +1,52 @@
 -- The trace of a list of turns: each caller follows its script, each act answers what stands in its word,
 -- the turns without an event are those of callers that have ended, and the lock bits count its locks.
-use Rattle.std.proofs.Common.{◌≡◌, ◌≢◌, ℕ, zero, suc, ◌+◌, ◌-◌, ◌/◌, ◌%◌, ◌^◌, ◌<◌, ◌≤◌, ◌⊎◌, ◌++◌, ◌∷◌, [], List, Bool, true, false, ◌&&◌, eqb, map, length, set, Option, Some, None, refl, sym, ap, ◌∙◌, subst, arith, inl, inr, append_assoc, append-nil}
-use Rattle.std.specs.Prelude.{slice_get, slice_index, option_and_then, MatchOption}
+use Rattle.std.proofs.Common.{◌≡◌, ◌≢◌, ℕ, zero, suc, ◌+◌, ◌-◌, ◌/◌, ◌%◌, ◌^◌, ◌<◌, ◌≤◌, ◌++◌, ◌∷◌, [], List, Bool, true, false, ◌&&◌, eqb, map, length, set, Option, Some, None, refl, sym, ap, ◌∙◌, subst, arith, inl, inr, append_assoc, append-nil}
+use Rattle.std.specs.Prelude.{slice_get, slice_index, MatchOption}
 use Rattle.std.specs.Int.{bit_not, w64}
-use Rattle.std.specs.Int.Bits.{bit_and, bit_or}
-use Rattle.std.specs.List.{All, count_by, filter, flat_map}
+use Rattle.std.specs.Int.Bits.{bit_and}
+use Rattle.std.specs.List.{All, count_by, filter}
 use Rattle.std.proofs.Math.Pow.{pow-lt}
-use Rattle.std.proofs.lemmas.Bool.{cases_Bool, cases_eq, cases_order, eqb-true, eq-eqb, ne_eqb}
-use Rattle.std.proofs.lemmas.List.{map-append, get_or-set_other}
+use Rattle.std.proofs.lemmas.Bool.{cases_Bool, cases_eq, cases_order, eq-eqb, ne_eqb}
+use Rattle.std.proofs.lemmas.List.{map-append}
 use Rattle.std.proofs.lemmas.List.Elements.{filter-append, All-nil, All-cons, All-append}
 use Rattle.std.proofs.lemmas.List.Concat.{flat_map-cons}
 use Rattle.std.proofs.lemmas.Grind.{flat_map-append}
 use Rattle.std.proofs.lemmas.Option.{slice_get_within}
 use Rattle.std.proofs.lemmas.List.Sums.{sum_by-append, sum_by-cons}
 use Rattle.gpi_values.specs.declared.gpi.Gpi.{Gpi}
-use Rattle.gpt_descriptors.specs.declared.size.Size.{Size}
-use Rattle.gpt_descriptors.specs.Sizes.{size_bytes}
-use Rattle.gpt_descriptors.specs.Places.{GeometryData, Generation, Level1, place_of, gen_place_of, l1_place_of}
-use Rattle.invalidate.specs.Generations.{gen_load_of, gen_raise_of}
+use Rattle.gpt_descriptors.specs.Places.{GeometryData, place_of, WordName, IsWordName}
 use Rattle.history.specs.declared.call.Task.{Task}
 use Rattle.shared_words.specs.declared.act.Act.{Act}
 use Rattle.shared_words.specs.declared.act.Act.TheVariants as act
-use Rattle.shared_words.specs.Acts.{place_in, answer_of, after_act}
+use Rattle.shared_words.specs.Acts.{answer_of, after_act, place_in}
 use Rattle.bit_locks.specs.Locks.{lock_bit, bit_with, take_act, release_act}
 use Rattle.history.specs.declared.entry.Entry.{Entry}
 use Rattle.scenario_text.specs.declared.scenario.Scenario.{Scenario}
 use Rattle.scenario_text.specs.declared.scenario.Script.{Script}
 use Rattle.scenario_text.specs.declared.scenario.Script.TheVariants as script
 use Rattle.delegate_ops.specs.declared.stage.Stage.{Stage}
-use Rattle.delegate_ops.specs.declared.stage.Stage.TheVariants as stage
-use Rattle.delegate_ops.specs.InnerAgents.{AgentData, fresh, task_of, took_of, HasActs, act_at}
+use Rattle.delegate_ops.specs.InnerAgents.{AgentData, fresh, took_of}
 use Rattle.delegate_ops.proofs.ScriptLemmas.{fresh_walked, step_walks}
 use Rattle.core_machine.specs.declared.caller.Caller.{Caller}
 use Rattle.core_machine.specs.declared.caller.Caller.TheVariants as caller
-use Rattle.core_machine.proofs.ListLemmas.{one, get_set, get_set_other, count_set}
-use Rattle.core_machine.proofs.OthersLemmas.{made_at_place, index_at, generation_low}
-use Rattle.core_machine.proofs.LawLemmas.{one_act}
-use Rattle.core_machine.proofs.MachineLemmas.{turn_holds, turns_length}
+use Rattle.core_machine.proofs.ListLemmas.{one, get_set, get_set_other}
+use Rattle.core_machine.proofs.OthersLemmas.{made_at_place}
+use Rattle.core_machine.proofs.LawLemmas.{one_act, actor_of, is_plain, IsOn, act_word}
+use Rattle.core_machine.proofs.MachineLemmas.{scene_of, turn_holds, turns_length}
 use Rattle.core_machine.proofs.LockLemmas.{holder_bit, take_free, take_held, release_held}
-use Rattle.core_machine.proofs.ChangeActs.{locks_stay}
 use Rattle.core_machine.proofs.ActLemmas.{Acting, lock_of_task, low_of}
 use Rattle.delegate_ops.proofs.AgentLemmas.{at_stage}
-use Rattle.delegate_ops.proofs.ScriptLemmas.{some_mapped}
 use Rattle.core_machine.specs.Trace.{AreAnswered, TakesTurns, TraceEvent, events_of, history_of, words_after, releases, releases_by, takes, takes_by}
-use Rattle.delegate_ops.specs.Script.{CallEvent, lock_bit_of}
+use Rattle.delegate_ops.specs.Script.{CallEvent}
 use Rattle.delegate_ops.specs.InnerScript.{HasWalked}
-use Rattle.core_machine.specs.InnerInvariant.{IsMade, Invariant}
+use Rattle.core_machine.specs.InnerInvariant.{IsMade}
 use Rattle.core_machine.specs.InnerMachine.{MachineData, InvariantFor, after_act_of, after_turn, after_turn_of, after_turns, event_of, entries_in, act_entries_of, trace_of, turn_event_of, turn_entries, turn_entries_of}
 use Rattle.core_machine.specs.InnerCallers.{caller_next, caller_took, made_by}
 use Rattle.core_machine.specs.InnerPlay.{caller_of, opening_of, played, played_trace}
 use Rattle.core_machine.specs.Scenarios.{first_map, geometry_of, task_of_ask, turns_in}
-use Rattle.delegate_ops.specs.Deciding.{address_of, generation_in}
-use Rattle.delegate_ops.specs.Changing.{changed_word}
 use Rattle.core_machine.specs.InnerLocks.{holds}
+use Rattle.core_machine.proofs.WordLemmas.{is_lock, locks_left, writes_one}
+use Rattle.core_machine.specs.InnerScene.{HoldsIn, Scene}
 
 -- ---- each caller's events
 
@@ -180,7 +174,7 @@ trace_words m (c ∷ turns) =
 
 event_answered : (first : List Gpi) (m : MachineData) (h : List Entry) (c : ℕ) (a : Caller) (o : Option Act) → InvariantFor first m h → slice_get m.callers c ≡ Some a → caller_next a ≡ o → AreAnswered m.words (event_of m c a o)
 event_answered first m h c a None stands at next = tt
-event_answered first m h c a (Some t) stands at next = ((one_act m.geometry first m.words m.callers h c a t stands at next).0, refl, tt)
+event_answered first m h c a (Some t) stands at next = ((one_act m.geometry (scene_of first m h) c a t stands at next).0, refl, tt)
 
 turn_answered : (first : List Gpi) (m : MachineData) (h : List Entry) (c : ℕ) (o : Option Caller) → InvariantFor first m h → slice_get m.callers c ≡ o → AreAnswered m.words (turn_event_of m c o)
 turn_answered first m h c None stands at = tt
@@ -353,55 +347,35 @@ take_counts words n m within =
 release_counts : (words : List ℕ) (n m : ℕ) → n / 64 < length words → lock_bit words n ≡ 1 → CountsLock words (release_act (bit_with n)) m
 release_counts words n m within set_bit = rw (released_by n m) (release_held words n m within set_bit)
 
--- a word that is no lock word is written
-elsewhere_counts : (words : List ℕ) (p v m : ℕ) → 2 ≤ p → m < 128 → lock_bit (set words p v) m + 0 ≡ lock_bit words m + 0
-elsewhere_counts words p v m high low = ap (λ (k : ℕ). k + 0) (locks_stay words p v m high low)
+plain_left : (g : GeometryData) (words : List ℕ) (n : WordName) (p v m : ℕ) → IsWordName g n → is_lock (Some n) ≡ false → p ≡ place_of g n → m < 128 → lock_bit (set words p v) m + 0 ≡ lock_bit words m + 0
+plain_left g words n p v m named unlike at low =
+    ap (λ (k : ℕ). k + 0) (ap (λ (q : ℕ). lock_bit (set words q v) m) at ∙ locks_left (writes_one g words n v named) unlike m low)
 
-act_counts : (first : List Gpi) (words : List ℕ) (callers : List Caller) (h : List Entry) (c : ℕ) (a : AgentData) (t : Task) (s : Stage) (next : Act) (m : ℕ) → Acting first words callers h c a t s
-    → act_at a.geometry s t ≡ Some next → m < 128 → CountsLock words next m
-act_counts first words callers h c a t stage.Locking next m acting e low =
-    let own = low_of first words callers h c a t stage.Locking acting in
-    subst (λ (x : Act). CountsLock words x m) (let same : take_act (lock_bit_of a.geometry t) ≡ next = cc in same)
-    (take_counts words (lock_of_task a t) m (omega (arith, own, acting.stands.shape.size)))
-act_counts first words callers h c a t stage.Looking next m acting e low =
-    let load = some_mapped act.Load (l1_place_of a.geometry (address_of t)) next e in
-    let at = index_at a.geometry (address_of t) load.0 load.1 in
-    subst (λ (x : Act). CountsLock words x m) load.2 (elsewhere_counts words load.0 (slice_index words load.0) m (omega (arith, at.2)) low)
-act_counts first words callers h c a t (stage.Reading z k) next m acting e low =
-    subst (λ (x : Act). CountsLock words x m) (let same : gen_load_of a.geometry z (address_of t) ≡ next = cc in same)
-    (elsewhere_counts words (gen_place_of a.geometry z (address_of t)) (slice_index words (gen_place_of a.geometry z (address_of t))) m (generation_low a.geometry z (address_of t / size_bytes z)) low)
-act_counts first words callers h c a t (stage.Changing ch k) next m acting e low =
-    let store = some_mapped (λ place. act.Store place (changed_word a.geometry t ch k.word)) (l1_place_of a.geometry (address_of t)) next e in
-    let at = index_at a.geometry (address_of t) store.0 store.1 in
-    subst (λ (x : Act). CountsLock words x m) store.2 (elsewhere_counts words store.0 (changed_word a.geometry t ch k.word) m (omega (arith, at.2)) low)
-act_counts first words callers h c a t (stage.Raising ch z k) next m acting e low =
-    subst (λ (x : Act). CountsLock words x m) (let same : gen_raise_of a.geometry z (address_of t) (generation_in z k.generations) ≡ next = cc in same)
-    (elsewhere_counts words (gen_place_of a.geometry z (address_of t)) (generation_in z k.generations + 1) m (generation_low a.geometry z (address_of t / size_bytes z)) low)
-act_counts first words callers h c a t (stage.Releasing o) next m acting e low =
-    let s = stage.Releasing o in
-    let own = low_of first words callers h c a t s acting in
-    let has : holds (lock_of_task a t) (caller.Agent (at_stage a s)) ≡ true = rw acting.under_way (eq-eqb (lock_of_task a t) (lock_of_task a t) refl) in
-    subst (λ (x : Act). CountsLock words x m) (let same : release_act (lock_bit_of a.geometry t) ≡ next = cc in same)
-    (release_counts words (lock_of_task a t) m (omega (arith, own, acting.stands.shape.size))
-    (holder_bit words callers c (lock_of_task a t) (caller.Agent (at_stage a s)) acting.at acting.stands.locks own has))
-act_counts first words callers h c a t stage.Stopped next m acting e low = absurd cc
+-- a load or a store of a word that is no lock word
+plain_counts : (g : GeometryData) (words : List ℕ) (n : WordName) (next : Act) (m : ℕ) → IsWordName g n → is_lock (Some n) ≡ false → place_in next ≡ place_of g n → is_plain next ≡ true → m < 128 → CountsLock words next m
+plain_counts g words n (act.Load place) m named unlike at plain low = plain_left g words n place (slice_index words place) m named unlike at low
+plain_counts g words n (act.Store place value) m named unlike at plain low = plain_left g words n place value m named unlike at low
+plain_counts g words n next m named unlike at plain low = absurd cc
 
-agent_counts : (first : List Gpi) (words : List ℕ) (callers : List Caller) (h : List Entry) (c : ℕ) (a : AgentData) (next : Act) (o : Option Task) (m : ℕ)
-    → Invariant a.geometry first words callers h → slice_get callers c ≡ Some (caller.Agent a) → IsMade a.geometry (caller.Agent a) → task_of a ≡ o → option_and_then (act_at a.geometry a.stage) o ≡ Some next → m < 128
-    → CountsLock words next m
-agent_counts first words callers h c a next None m stands at made under_way e low = absurd cc
-agent_counts first words callers h c a next (Some t) m stands at made under_way e low =
-    act_counts first words callers h c a t a.stage next m
-    (record { stands = stands; at = at; is = made.1; under_way = under_way; acts = subst (HasActs a.geometry) under_way made.1.acts }) e low
+act_counts : {s : Scene} {c : ℕ} {a : AgentData} {t : Task} {st : Stage} (next : Act) (m : ℕ) (acting : Acting s c a t st) → IsOn a.geometry t st next → m < 128 → CountsLock s.words next m
+act_counts {s = s} {c = c} {a = a} {t = t} {st = st} next m acting on low =
+    let n = lock_of_task a t in
+    let within : n / 64 < length s.words = omega (arith, low_of acting, acting.stands.shape.size) in
+    elim on.how [
+      | inl takes ↦ subst (λ (x : Act). CountsLock s.words x m) (sym takes.1) (take_counts s.words n m within)
+      | inr other ↦ elim other [
+        | inl releases ↦
+            (let has : holds n (caller.Agent (at_stage a st)) ≡ true = rw (releases.1, acting.under_way) (eq-eqb n n refl) in
+            subst (λ (x : Act). CountsLock s.words x m) (sym releases.2)
+            (release_counts s.words n m within (holder_bit s.words s.callers c n (caller.Agent (at_stage a st)) acting.at acting.stands.locks (low_of acting) has)))
+        | inr plain ↦ plain_counts a.geometry s.words on.name next m on.named plain.0 on.place plain.1 low
+      ]
+    ]
 
-caller_counts : (g : GeometryData) (first : List Gpi) (words : List ℕ) (callers : List Caller) (h : List Entry) (c : ℕ) (x : Caller) (t : Act) (m : ℕ) → Invariant g first words callers h → slice_get callers c ≡ Some x → caller_next x ≡ Some t → m < 128
-    → CountsLock words t m
-caller_counts g first words callers h c (caller.Cpu looks) t m stands at next low = absurd cc
-caller_counts g first words callers h c (caller.Agent a) t m stands at next low =
-    let made = made_at_place g first words callers c (caller.Agent a) stands.shape at in
-    agent_counts first words callers h c a t (task_of a) m
-    (subst (λ (k : GeometryData). Invariant k first words callers h) (sym made.0) stands) at
-    (subst (λ (k : GeometryData). IsMade k (caller.Agent a)) (sym made.0) made) refl next low
+caller_counts : (g : GeometryData) (s : Scene) (c : ℕ) (x : Caller) (t : Act) (m : ℕ) → HoldsIn g s → slice_get s.callers c ≡ Some x → caller_next x ≡ Some t → m < 128 → CountsLock s.words t m
+caller_counts g s c x t m stands at next low =
+    let actor = actor_of g s c x t stands at next in
+    act_counts t m actor.acting (act_word actor.agent.geometry actor.task actor.agent.stage t actor.acting.stands.shape.geometry actor.acting.acts actor.act) low
 
 -- the locks taken and released by a trace make the lock bits
 abbrev CountsTrace : ℕ → List ℕ → List ℕ → List TraceEvent → Type 0
@@ -417,7 +391,7 @@ event_counts : (n : ℕ) (first : List Gpi) (m : MachineData) (h : List Entry) (
     → CountsTrace n m.words (after_act_of m c a o).words (event_of m c a o)
 event_counts n first m h c a None low stands at next = refl
 event_counts n first m h c a (Some t) low stands at next =
-    let counts = caller_counts m.geometry first m.words m.callers h c a t n stands at next low in
+    let counts = caller_counts m.geometry (scene_of first m h) c a t n stands at next low in
     let e : TraceEvent = record { caller = c; event = made_event m c a t } in
     omega (arith, counts, count_one (releases n) e, count_one (takes n) e)
 

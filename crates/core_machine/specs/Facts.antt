@@ -39,55 +39,76 @@ is_on_block s n (entry.Looked c k granule space gpi allowed) = false
 abbrev pub AreUndisturbed : SetupData → List Entry → Type 0
 AreUndisturbed s h =
     (before after : List Entry) (e : Entry) (c k n : ℕ) → h ≡ before ++ e ∷ after
-    → list_any (λ x. is_by c k x && is_on_block s n x) before ≡ true → list_any (λ x. is_by c k x && is_on_block s n x) after ≡ true
+    → list_any (λ x. is_by c k x && is_on_block s n x) before ≡ true
+    → list_any (λ x. is_by c k x && is_on_block s n x) after ≡ true
     → is_on_block s n e ≡ true → is_by c k e ≡ true
 
 -- after an entry of a call without an answer, no other call has an entry on its lock block
 abbrev pub AreAlone : SetupData → List (List Answer) → List Entry → Type 0
 AreAlone s answers h =
-    (before after : List Entry) (e : Entry) (c k n : ℕ) → h ≡ before ++ e ∷ after → answer_at answers c k ≡ None
-    → is_by c k e ≡ true → is_on_block s n e ≡ true → All (λ x. is_on_block s n x ≡ true → is_by c k x ≡ true) after
+    (before after : List Entry) (e : Entry) (c k n : ℕ) → h ≡ before ++ e ∷ after
+    → answer_at answers c k ≡ None
+    → is_by c k e ≡ true → is_on_block s n e ≡ true
+    → All (λ x. is_on_block s n x ≡ true → is_by c k x ≡ true) after
 
 -- ---- counts
 
 -- the generations that call k of caller c is answered are the counts of the history
 abbrev pub IsCounted : GeometryData → ℕ → ℕ → Task → Answer → List Entry → Type 0
-IsCounted g c k t (answer.Done given) h = AreDoneCounts g.setup.first (granule_bytes g.setup) c k (granule_of_task g t) given h
-IsCounted g c k t (answer.Worn z value) h = IsWornCount g.setup.first (granule_bytes g.setup) c k (granule_of_task g t) z value h
+IsCounted g c k t (answer.Done given) h =
+    AreDoneCounts g.setup.first (granule_bytes g.setup) c k (granule_of_task g t) given h
+IsCounted g c k t (answer.Worn z value) h =
+    IsWornCount g.setup.first (granule_bytes g.setup) c k (granule_of_task g t) z value h
 IsCounted g c k t given h = Unit {0}
 
--- a call without an answer that is refused with the GPI that it needs has a generation to report as worn
+-- a call without an answer that is refused with the GPI that it needs has a generation to report as
+-- worn
 abbrev pub AreWorn : GeometryData → List (List Task) → List (List Answer) → List Entry → Type 0
 AreWorn g tasks answers h =
-    (before after : List Entry) (c k granule : ℕ) (found : Gpi) (t : Task) → h ≡ before ++ entry.Refused c k granule found ∷ after
+    (before after : List Entry) (c k granule : ℕ) (found : Gpi) (t : Task)
+    → h ≡ before ++ entry.Refused c k granule found ∷ after
     → task_at tasks c k ≡ Some t → answer_at answers c k ≡ None → needed t ≡ Some found
     → (z : Size) × (value : ℕ) × IsCounted g c k t (answer.Worn z value) h
 
 -- ---- the whole
 
--- Answers and words fit a history from a first map: it is legal, it has the entries of each call once and in
--- its caller's order, and the words are those of its last map and its counts.
-pub record FitsHistory (g : GeometryData) (first : List Gpi) (tasks : List (List Task)) (answers : List (List Answer)) (words : List ℕ) (h : List Entry) : Type 0 where
+-- the map that a history leaves, as a function
+abbrev pub map_after : List Gpi → List Entry → ℕ → Gpi
+map_after first h = map_at (state_after (start first) h).map
+
+-- what a history counts for a region of a size
+abbrev pub count_for : GeometryData → Size → ℕ → List Entry → ℕ
+count_for g y region h = count_of g.setup.first (granule_bytes g.setup) y region h
+
+-- Answers and words fit a history from a first map: it is legal, it has the entries of each call
+-- once and in its caller's order, and the words are those of its last map and its counts.
+pub record FitsHistory (g : GeometryData) (first : List Gpi) (tasks : List (List Task))
+    (answers : List (List Answer)) (words : List ℕ) (h : List Entry) : Type 0 where
   pub many : length answers ≡ length tasks
   pub size : length words ≡ word_count g
   pub legal : IsLegalHistory (granule_bytes g.setup) tasks answers (start first) h
   pub calls : HasCalls (granule_bytes g.setup) tasks answers h
   -- the answers of transitions by their causes, and the generations of Done and Worn
-  pub causes : (c k : ℕ) (t : Task) (given : Answer) → task_at tasks c k ≡ Some t → answer_at answers c k ≡ Some given → is_look t ≡ false → HasCause g t given
-  pub counts : (c k : ℕ) (t : Task) (given : Answer) → task_at tasks c k ≡ Some t → answer_at answers c k ≡ Some given → IsCounted g c k t given h
+  pub causes : (c k : ℕ) (t : Task) (given : Answer) → task_at tasks c k ≡ Some t
+      → answer_at answers c k ≡ Some given → is_look t ≡ false → HasCause g t given
+  pub counts : (c k : ℕ) (t : Task) (given : Answer) → task_at tasks c k ≡ Some t
+      → answer_at answers c k ≡ Some given → IsCounted g c k t given h
   pub worn : AreWorn g tasks answers h
   -- transitions on one lock block don't mix
   pub undisturbed : AreUndisturbed g.setup h
   pub alone : AreAlone g.setup answers h
-  -- the tables mean the last map, and where the setup uses no contiguous entries their words are canonical
-  pub tables : TablesMean g.setup (l0_words g) (table_part g words) (map_at (state_after (start first) h).map)
-  pub canonical : g.setup.max ≡ most.Zero → AreCanonical g.setup (l0_words g) (table_part g words) (map_at (state_after (start first) h).map)
+  -- the tables mean the last map, and where the setup uses no contiguous entries their words are
+  -- canonical
+  pub tables : TablesMean g.setup (l0_words g) (table_part g words) (map_after first h)
+  pub canonical : g.setup.max ≡ most.Zero
+      → AreCanonical g.setup (l0_words g) (table_part g words) (map_after first h)
   -- a generation is the count of its region, or one less while its lock is held
   pub generations : (y : Size) (region : ℕ) → region < blocks_in_region y * g.setup.gigabytes
-      → (generation_word g words y region ≡ count_of g.setup.first (granule_bytes g.setup) y region h)
-      ⊎ ((generation_word g words y region + 1 ≡ count_of g.setup.first (granule_bytes g.setup) y region h)
+      → (generation_word g words y region ≡ count_for g y region h)
+      ⊎ ((generation_word g words y region + 1 ≡ count_for g y region h)
       × (lock_bit words (lock_number g.setup (region * size_bytes y)) ≡ 1))
   -- where each call is answered no lock is held; duty words and lines aren't used yet
-  pub ended : ((c k : ℕ) (t : Task) → task_at tasks c k ≡ Some t → answer_at answers c k ≡ None → ⊥) → (n : ℕ) → n < 128 → lock_bit words n ≡ 0
+  pub ended : ((c k : ℕ) (t : Task) → task_at tasks c k ≡ Some t → answer_at answers c k ≡ None → ⊥)
+      → (n : ℕ) → n < 128 → lock_bit words n ≡ 0
   pub duty : (cpu : ℕ) → cpu < g.cpus → slice_index words (place_of g (Duty cpu)) ≡ 0
   pub lines : (i : ℕ) → i < l1_words g → slice_index words (place_of g (Line i)) ≡ 0

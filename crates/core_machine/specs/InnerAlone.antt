@@ -1,15 +1,12 @@
 -- Since a caller took its lock, no other has made an entry on its lock block.
-use Rattle.std.specs.Prelude.{◌≡◌, ℕ, ◌*◌, Bool, true, false, ◌&&◌, ◌==◌, List, ◌∷◌, ◌++◌, slice_get, Some}
+use Rattle.std.specs.Prelude.{◌≡◌, ℕ, true, false, List, ◌++◌, slice_get, Some}
 use Rattle.std.specs.List.{All, list_any}
-use Rattle.gpt_descriptors.specs.Sizes.{SetupData, granule_bytes}
-use Rattle.bit_locks.specs.Locks.{lock_number}
+use Rattle.gpt_descriptors.specs.Sizes.{SetupData}
 use Rattle.history.specs.declared.entry.Entry.{Entry}
-use Rattle.history.specs.declared.entry.Entry.TheVariants as entry
 use Rattle.history.specs.Counts.{is_by}
 use Rattle.core_machine.specs.declared.caller.Caller.{Caller}
 use Rattle.core_machine.specs.InnerCallers.{call_of}
 use Rattle.core_machine.specs.InnerLocks.{holds}
-use Rattle.delegate_ops.specs.InnerAgents.{fresh}
 use Rattle.core_machine.specs.Facts.{is_on_block}
 
 -- since call k of caller c took lock n, no other has made an entry on its lock block
@@ -22,4 +19,5 @@ pub record IsAlone (s : SetupData) (n c k : ℕ) (h : List Entry) : Type 0 where
 
 abbrev pub HoldersAreAlone : SetupData → List Caller → List Entry → Type 0
 HoldersAreAlone s callers h =
-    (c n : ℕ) (caller : Caller) → slice_get callers c ≡ Some caller → holds n caller ≡ true → IsAlone s n c (call_of caller) h
+    (c n : ℕ) (caller : Caller) → slice_get callers c ≡ Some caller → holds n caller ≡ true
+    → IsAlone s n c (call_of caller) h

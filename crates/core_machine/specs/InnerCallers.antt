@@ -1,21 +1,10 @@
 -- Callers as plain data: their acts, their answers, and the entries that their acts make.
-use Rattle.std.specs.Prelude.{ℕ, ◌-◌, ◌/◌, Bool, false, List, [], ◌∷◌, ◌++◌, length, Option, Some, None}
-use Rattle.gpt_descriptors.specs.declared.size.Size.TheVariants as size
+use Rattle.std.specs.Prelude.{ℕ, ◌-◌, Bool, false, List, [], ◌++◌, length, Option, None}
 use Rattle.gpt_descriptors.specs.Sizes.{granule_bytes}
-use Rattle.gpt_descriptors.specs.Places.{GeometryData}
 use Rattle.shared_words.specs.declared.act.Act.{Act}
-use Rattle.history.specs.declared.call.Task.{Task}
-use Rattle.history.specs.declared.call.Task.TheVariants as task
 use Rattle.history.specs.declared.call.Answer.{Answer}
 use Rattle.history.specs.declared.entry.Entry.{Entry}
-use Rattle.history.specs.declared.entry.Entry.TheVariants as entry
-use Rattle.history.specs.Calls.{call_entries, answered_entries}
-use Rattle.delegate_ops.specs.declared.stage.Change.{Change}
-use Rattle.delegate_ops.specs.declared.stage.Change.TheVariants as change
-use Rattle.delegate_ops.specs.declared.stage.Stage.{Stage}
-use Rattle.delegate_ops.specs.declared.stage.Stage.TheVariants as stage
-use Rattle.delegate_ops.specs.Deciding.{address_of, looked_answer, worn_answer}
-use Rattle.delegate_ops.specs.Changing.{from_of, to_of, with_generation}
+use Rattle.history.specs.Calls.{answered_entries}
 use Rattle.delegate_ops.specs.InnerAgents.{task_of, next_of, took_of, IsReadable}
 use Rattle.core_machine.specs.declared.caller.Caller.{Caller}
 use Rattle.core_machine.specs.declared.caller.Caller.TheVariants as caller

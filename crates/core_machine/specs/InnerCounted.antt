@@ -1,12 +1,9 @@
 -- Answers are the counts of the history.
 use Rattle.std.specs.Prelude.{◌≡◌, ℕ, List, [], ◌∷◌, ◌++◌, slice_get, Some}
-use Rattle.gpt_descriptors.specs.Sizes.{granule_bytes}
 use Rattle.gpt_descriptors.specs.Places.{GeometryData}
 use Rattle.history.specs.declared.call.Task.{Task}
 use Rattle.history.specs.declared.call.Answer.{Answer}
-use Rattle.history.specs.declared.call.Answer.TheVariants as answer
 use Rattle.history.specs.declared.entry.Entry.{Entry}
-use Rattle.history.specs.Counts.{AreDoneCounts, IsWornCount}
 use Rattle.delegate_ops.specs.declared.stage.Stage.{Stage}
 use Rattle.delegate_ops.specs.declared.stage.Stage.TheVariants as stage
 use Rattle.core_machine.specs.declared.caller.Caller.{Caller}
@@ -28,5 +25,6 @@ caller_tasks (caller.Cpu looks) = []
 
 abbrev pub AnswersCount : GeometryData → List Caller → List Entry → Type 0
 AnswersCount g callers h =
-    (c k : ℕ) (caller : Caller) (t : Task) (given : Answer) → slice_get callers c ≡ Some caller → slice_get (caller_tasks caller) k ≡ Some t
+    (c k : ℕ) (caller : Caller) (t : Task) (given : Answer) → slice_get callers c ≡ Some caller
+    → slice_get (caller_tasks caller) k ≡ Some t
     → slice_get (known_answers caller) k ≡ Some given → IsCounted g c k t given h

@@ -15,8 +15,10 @@ abbrev pub AreAllowed : State → List Entry → Type 0
 AreAllowed s [] = Unit {0}
 AreAllowed s (e ∷ h) = StateAllows s e × AreAllowed (after_entry s e) h
 
--- The history goes through states that allow it, and has each caller's own entries in their order, and no others.
+-- The history goes through states that allow it, and has each caller's own entries in their order,
+-- and no others.
 pub record IsHistoryOf (first : List Gpi) (callers : List Caller) (h : List Entry) : Type 0 where
   pub allowed : AreAllowed (start first) h
-  pub own : (c : ℕ) (caller : Caller) → slice_get callers c ≡ Some caller → entries_by c h ≡ own_of c caller
+  pub own : (c : ℕ) (caller : Caller) → slice_get callers c ≡ Some caller
+      → entries_by c h ≡ own_of c caller
   pub known : All (λ e. caller_in e < length callers) h

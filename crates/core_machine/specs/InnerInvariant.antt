@@ -23,10 +23,12 @@ use Rattle.delegate_ops.specs.InnerScript.{HasWalked}
 
 -- the caller was made with this geometry, and has come to its stage by some events of its script
 abbrev pub IsMade : GeometryData → Caller → Type 0
-IsMade g (caller.Agent a) = (a.geometry ≡ g) × IsAgent a × (c : ℕ) × (events : List CallEvent) × HasWalked c a events
+IsMade g (caller.Agent a) =
+    (a.geometry ≡ g) × IsAgent a × (c : ℕ) × (events : List CallEvent) × HasWalked c a events
 IsMade g (caller.Cpu looks) = Unit {0}
 
-pub record HasShape (g : GeometryData) (first : List Gpi) (words : List ℕ) (callers : List Caller) : Type 0 where
+pub record HasShape (g : GeometryData) (first : List Gpi) (words : List ℕ)
+    (callers : List Caller) : Type 0 where
   pub geometry : IsGeometry g
   pub size : length words ≡ word_count g
   pub granules : length first ≡ space_granules g.setup
@@ -38,7 +40,8 @@ pub record AreIdle (g : GeometryData) (words : List ℕ) : Type 0 where
   pub lines : (i : ℕ) → i < l1_words g → slice_index words (place_of g (Line i)) ≡ 0
 
 -- Words and callers fit a history from a first map.
-pub record Invariant (g : GeometryData) (first : List Gpi) (words : List ℕ) (callers : List Caller) (h : List Entry) : Type 0 where
+pub record Invariant (g : GeometryData) (first : List Gpi) (words : List ℕ) (callers : List Caller)
+    (h : List Entry) : Type 0 where
   pub shape : HasShape g first words callers
   pub tables : MeansMap g words (state_after (start first) h).map
   pub opened : OpenAreHeld (state_after (start first) h).opened callers

@@ -1,17 +1,21 @@
 -- The law of one act, over plain data.
-use Rattle.std.specs.Prelude.{◌≡◌, ℕ, ◌<◌, List, ◌++◌, length, slice_get, slice_set, Some}
-use Rattle.gpi_values.specs.declared.gpi.Gpi.{Gpi}
+use Rattle.std.specs.Prelude.{◌≡◌, ℕ, ◌<◌, length, slice_get, Some}
 use Rattle.gpt_descriptors.specs.Places.{GeometryData}
 use Rattle.shared_words.specs.declared.act.Act.{Act}
 use Rattle.shared_words.specs.Acts.{place_in, answer_of, after_act}
-use Rattle.history.specs.declared.entry.Entry.{Entry}
 use Rattle.core_machine.specs.declared.caller.Caller.{Caller}
 use Rattle.core_machine.specs.InnerCallers.{caller_next, caller_took, made_by, MayTake}
-use Rattle.core_machine.specs.InnerInvariant.{Invariant}
+use Rattle.core_machine.specs.InnerScene.{Scene, HoldsIn, scene_after}
+
+-- the scene after the next act of caller c, which is x
+abbrev pub scene_acted : Scene → ℕ → Caller → Act → Scene
+scene_acted s c x t =
+    let old = answer_of t s.words in
+    scene_after s c (caller_took x old) (after_act t s.words) (made_by c x old)
 
 abbrev pub OneActKeeps : Type 0
 OneActKeeps =
-    (g : GeometryData) (first : List Gpi) (words : List ℕ) (callers : List Caller) (h : List Entry) (c : ℕ) (a : Caller) (t : Act)
-    → Invariant g first words callers h → slice_get callers c ≡ Some a → caller_next a ≡ Some t
-    → (place_in t < length words) × MayTake a (answer_of t words)
-    × Invariant g first (after_act t words) (slice_set callers c (caller_took a (answer_of t words))) (h ++ made_by c a (answer_of t words))
+    (g : GeometryData) (s : Scene) (c : ℕ) (x : Caller) (t : Act)
+    → HoldsIn g s → slice_get s.callers c ≡ Some x → caller_next x ≡ Some t
+    → (place_in t < length s.words) × MayTake x (answer_of t s.words)
+    × HoldsIn g (scene_acted s c x t)

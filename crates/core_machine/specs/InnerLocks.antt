@@ -25,6 +25,7 @@ abbrev pub holds : ℕ → Caller → Bool
 holds n (caller.Agent a) = is_inside a.stage && is_lock_of a.geometry n (task_of a)
 holds n (caller.Cpu looks) = false
 
--- A lock bit is the number of its holders: it is clear where there is none, and there is never a second one.
+-- A lock bit is the number of its holders: it is clear where there is none, and there is never a
+-- second one.
 abbrev pub LocksAreHeld : List ℕ → List Caller → Type 0
 LocksAreHeld words callers = (n : ℕ) → n < 128 → lock_bit words n ≡ count_by (holds n) callers

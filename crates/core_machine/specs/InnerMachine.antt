@@ -15,9 +15,21 @@ pub record MachineData : Type 0 where
   pub callers : List Caller
   pub words : List ℕ
 
+abbrev pub machine_of : GeometryData → List Caller → List ℕ → MachineData
+machine_of g callers words = record { geometry = g; callers = callers; words = words }
+
 -- the machine has the invariant with a history from a first map
 abbrev pub InvariantFor : List Gpi → MachineData → List Entry → Type 0
 InvariantFor first m h = Invariant m.geometry first m.words m.callers h
+
+-- with some history
+abbrev pub HasInvariant : MachineData → Type 0
+HasInvariant m = (first : List Gpi) × (h : List Entry) × InvariantFor first m h
+
+-- with each history that m has it with, and these entries more, n has it
+abbrev pub KeepsInvariant : MachineData → MachineData → List Entry → Type 0
+KeepsInvariant m n made =
+    (first : List Gpi) (h : List Entry) → InvariantFor first m h → InvariantFor first n (h ++ made)
 
 -- ---- one turn
 
@@ -32,7 +44,16 @@ after_act_of m c a (Some t) = record {
 
 abbrev pub event_of : MachineData → ℕ → Caller → Option Act → List TraceEvent
 event_of m c a None = []
-event_of m c a (Some t) = record { caller = c; event = record { act = t; old = answer_of t m.words; made = made_by c a (answer_of t m.words) } } ∷ []
+event_of m c a (Some t) =
+    record {
+      caller = c;
+      event = record {
+        act = t;
+        old = answer_of t m.words;
+        made = made_by c a (answer_of t m.words);
+      };
+    }
+    ∷ []
 
 abbrev pub act_entries_of : MachineData → ℕ → Caller → Option Act → List Entry
 act_entries_of m c a None = []
@@ -66,7 +87,8 @@ after_turns m (c ∷ turns) = after_turns (after_turn m c) turns
 -- The trace: the events of the turns, without the turns of a caller that has no act.
 abbrev pub trace_of : MachineData → List ℕ → List TraceEvent
 trace_of m [] = []
-trace_of m (c ∷ turns) = turn_event_of m c (slice_get m.callers c) ++ trace_of (after_turn m c) turns
+trace_of m (c ∷ turns) =
+    turn_event_of m c (slice_get m.callers c) ++ trace_of (after_turn m c) turns
 
 -- the history of the trace: the entries of its events, in their order
 abbrev pub entries_in : MachineData → List ℕ → List Entry

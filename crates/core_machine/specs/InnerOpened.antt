@@ -1,4 +1,5 @@
--- Which changes aren't complete: those of the callers that stand between a change and its third raise.
+-- Which changes aren't complete: those of the callers that stand between a change and its third
+-- raise.
 use Rattle.std.specs.Prelude.{◌≡◌, ℕ, List, [], ◌∷◌, ◌==◌, Option, Some}
 use Rattle.std.specs.List.{filter, flat_map}
 use Rattle.gpi_values.specs.declared.gpi.Gpi.{Gpi}
@@ -12,7 +13,8 @@ use Rattle.core_machine.specs.declared.caller.Caller.{Caller}
 use Rattle.core_machine.specs.declared.caller.Caller.TheVariants as caller
 use Rattle.delegate_ops.specs.Script.{granule_of_task}
 
--- the granule and its former GPI, where the call under way has changed it and not yet raised all generations
+-- the granule and its former GPI, where the call under way has changed it and not yet raised all
+-- generations
 abbrev pub open_at : GeometryData → Stage → Option Task → List (ℕ × Gpi)
 open_at g (stage.Raising c z k) (Some t) = (granule_of_task g t, from_of t c) ∷ []
 open_at g s o = []
@@ -27,4 +29,5 @@ pairs_of granule pairs = filter (λ pair. pair.0 == granule) pairs
 
 -- Of each granule, what is open is what the callers hold open.
 abbrev pub OpenAreHeld : List (ℕ × Gpi) → List Caller → Type 0
-OpenAreHeld opened callers = (granule : ℕ) → pairs_of granule opened ≡ pairs_of granule (flat_map open_by callers)
+OpenAreHeld opened callers =
+    (granule : ℕ) → pairs_of granule opened ≡ pairs_of granule (flat_map open_by callers)

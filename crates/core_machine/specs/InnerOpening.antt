@@ -20,11 +20,14 @@ IsFresh g (caller.Cpu looks) = Unit {0}
 -- each L1 word is the canonical word of this map
 abbrev pub AreCanonicalWords : GeometryData → List Gpi → List ℕ → Type 0
 AreCanonicalWords g first words =
-    (m : ℕ → Gpi) × ((granule : ℕ) → granule < space_granules g.setup → slice_get first granule ≡ Some (m granule))
-    × ((w i : ℕ) → l1_index g.setup (l0_words g) w ≡ Some i → table_word g words i ≡ canonical_word g.setup m None w)
+    (m : ℕ → Gpi)
+    × ((granule : ℕ) → granule < space_granules g.setup
+    → slice_get first granule ≡ Some (m granule))
+    × ((w i : ℕ) → l1_index g.setup (l0_words g) w ≡ Some i
+    → table_word g words i ≡ canonical_word g.setup m None w)
 
--- All words are there, no lock is held, the tables mean a map and their words are its canonical ones, duty words
--- and lines are 0, and each generation is the first one.
+-- All words are there, no lock is held, the tables mean a map and their words are its canonical
+-- ones, duty words and lines are 0, and each generation is the first one.
 pub record AreStarting (g : GeometryData) (first : List Gpi) (words : List ℕ) : Type 0 where
   pub geometry : IsGeometry g
   pub size : length words ≡ word_count g
@@ -34,4 +37,5 @@ pub record AreStarting (g : GeometryData) (first : List Gpi) (words : List ℕ) 
   pub canonical : AreCanonicalWords g first words
   pub duty : (cpu : ℕ) → cpu < g.cpus → slice_index words (place_of g (Duty cpu)) ≡ 0
   pub lines : (i : ℕ) → i < l1_words g → slice_index words (place_of g (Line i)) ≡ 0
-  pub generations : (y : Size) (region : ℕ) → region < blocks_in_region y * g.setup.gigabytes → generation_word g words y region ≡ g.setup.first
+  pub generations : (y : Size) (region : ℕ) → region < blocks_in_region y * g.setup.gigabytes
+      → generation_word g words y region ≡ g.setup.first

@@ -34,7 +34,8 @@ abbrev pub played_trace : Scenario → List TraceEvent
 played_trace s = trace_of (opening_of s) (turns_in s)
 
 abbrev pub outcome_of : MachineData → Outcome
-outcome_of m = record { geometry = m.geometry; answers = map caller_answers m.callers; words = m.words }
+outcome_of m =
+    record { geometry = m.geometry; answers = map caller_answers m.callers; words = m.words }
 
 -- a line of the schedule names one of n callers
 abbrev pub NamesCaller : ℕ → Slot → Type 0

@@ -1,8 +1,9 @@
--- Generations: each is the count of its region, less the changes whose callers haven't raised it yet.
-use Rattle.std.specs.Prelude.{◌≡◌, ℕ, ◌+◌, ◌*◌, ◌<◌, Bool, false, not, ◌&&◌, ◌==◌, List, count_by, slice_index, Option, Some, None}
+-- Generations: each is the count of its region, less the changes whose callers haven't raised it
+-- yet.
+use Rattle.std.specs.Prelude.{◌≡◌, ℕ, ◌+◌, ◌*◌, ◌<◌, Bool, false, not, ◌&&◌, ◌==◌, List, count_by, Option, Some, None}
 use Rattle.gpt_descriptors.specs.declared.size.Size.{Size}
 use Rattle.gpt_descriptors.specs.Sizes.{granule_bytes}
-use Rattle.gpt_descriptors.specs.Places.{GeometryData, Generation, place_of, blocks_in_region}
+use Rattle.gpt_descriptors.specs.Places.{GeometryData, blocks_in_region}
 use Rattle.history.specs.declared.call.Task.{Task}
 use Rattle.history.specs.declared.entry.Entry.{Entry}
 use Rattle.history.specs.Counts.{region_of, count_of}
@@ -31,4 +32,5 @@ is_due y region (caller.Cpu looks) = false
 abbrev pub GenerationsCount : GeometryData → List ℕ → List Caller → List Entry → Type 0
 GenerationsCount g words callers h =
     (y : Size) (region : ℕ) → region < blocks_in_region y * g.setup.gigabytes
-    → generation_word g words y region + count_by (is_due y region) callers ≡ count_of g.setup.first (granule_bytes g.setup) y region h
+    → generation_word g words y region + count_by (is_due y region) callers
+    ≡ count_of g.setup.first (granule_bytes g.setup) y region h

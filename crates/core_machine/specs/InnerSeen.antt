@@ -25,21 +25,26 @@ comes_before size.ThirtyTwo size.FiveTwelve = true
 comes_before y z = false
 
 -- the L1 word of the task's granule is this one, and gives it this GPI
-pub record SeesWord (g : GeometryData) (words : List ℕ) (t : Task) (word : ℕ) (found : Option Gpi) : Type 0 where
-  pub stands : (place : ℕ) → l1_place_of g (address_of t) ≡ Some place → slice_index words place ≡ word
+pub record SeesWord (g : GeometryData) (words : List ℕ) (t : Task) (word : ℕ)
+    (found : Option Gpi) : Type 0 where
+  pub stands : (place : ℕ) → l1_place_of g (address_of t) ≡ Some place
+      → slice_index words place ≡ word
   pub gives : word_gpi word (granule_place g (address_of t)) ≡ found
 
 -- the generation of this size around it is the kept one
 abbrev pub SeesGeneration : GeometryData → List ℕ → Task → Generations → Size → Type 0
-SeesGeneration g words t k y = slice_index words (gen_place_of g y (address_of t)) ≡ generation_in y k
+SeesGeneration g words t k y =
+    slice_index words (gen_place_of g y (address_of t)) ≡ generation_in y k
 
 -- while the generations are loaded: those of the sizes before
-pub record SeesSome (g : GeometryData) (words : List ℕ) (t : Task) (z : Size) (k : Kept) : Type 0 where
+pub record SeesSome (g : GeometryData) (words : List ℕ) (t : Task) (z : Size)
+    (k : Kept) : Type 0 where
   pub word : SeesWord g words t k.word (needed t)
   pub generations : (y : Size) → comes_before y z ≡ true → SeesGeneration g words t k.generations y
 
 -- from then on: all, and the word is one of granules
-pub record SeesAll (g : GeometryData) (words : List ℕ) (t : Task) (found : Gpi) (k : Kept) : Type 0 where
+pub record SeesAll (g : GeometryData) (words : List ℕ) (t : Task) (found : Gpi)
+    (k : Kept) : Type 0 where
   pub word : SeesWord g words t k.word (Some found)
   pub granules : is_granules k.word ≡ true
   pub generations : (y : Size) → SeesGeneration g words t k.generations y

@@ -12,6 +12,7 @@ pub mod InnerRaised
 pub mod InnerAlone
 pub mod InnerCounted
 pub mod InnerInvariant
+pub mod InnerScene
 pub mod InnerLaw
 pub mod InnerCallerLaws
 pub mod InnerMachine

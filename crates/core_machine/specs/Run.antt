@@ -7,10 +7,12 @@ use Rattle.core_machine.specs.Scenarios.{tasks_of, geometry_of, first_words, fir
 use Rattle.core_machine.specs.Trace.{TraceEvent, history_of, takes, releases, IsTrace}
 use Rattle.core_machine.specs.Facts.{FitsHistory}
 
--- An outcome of a scenario is what a trace of its schedule leaves, and fits the trace's history. Each lock
--- bit is set where its lock was taken and not released.
+-- An outcome of a scenario is what a trace of its schedule leaves, and fits the trace's history.
+-- Each lock bit is set where its lock was taken and not released.
 pub record IsRun (s : Scenario) (o : Outcome) (trace : List TraceEvent) : Type 0 where
   pub geometry : o.geometry ≡ geometry_of s
   pub turns : IsTrace (geometry_of s) s.scripts (first_words s) (turns_in s) trace o.answers o.words
-  pub fits : FitsHistory (geometry_of s) (first_map s) (map tasks_of s.scripts) o.answers o.words (history_of trace)
-  pub locks : (n : ℕ) → n < 128 → lock_bit o.words n + count_by (releases n) trace ≡ count_by (takes n) trace
+  pub fits : FitsHistory (geometry_of s) (first_map s) (map tasks_of s.scripts) o.answers o.words
+      (history_of trace)
+  pub locks : (n : ℕ) → n < 128
+      → lock_bit o.words n + count_by (releases n) trace ≡ count_by (takes n) trace

@@ -1,5 +1,6 @@
--- What a scenario is for the core: its geometry, its first map, the tasks of its callers, and its turns.
-use Rattle.std.specs.Prelude.{◌≡◌, ℕ, ◌-◌, Bool, true, false, List, [], ◌∷◌, ◌++◌, length, map, get_or, replicate, count_by, None, if◌then◌else◌}
+-- What a scenario is for the core: its geometry, its first map, the tasks of its callers, and its
+-- turns.
+use Rattle.std.specs.Prelude.{◌≡◌, ℕ, ◌-◌, Bool, true, false, List, ◌++◌, length, map, get_or, replicate, count_by, None, if◌then◌else◌}
 use Rattle.std.specs.List.{flat_map, range_with_len}
 use Rattle.gpi_values.specs.declared.gpi.Gpi.{Gpi}
 use Rattle.gpi_values.specs.declared.gpi.Gpi.TheVariants as gpi
@@ -29,12 +30,15 @@ pub record IsAccepted (s : Scenario) : Type 0 where
 
 -- ---- tasks
 
--- the task of a call; a monitor call of a world that isn't admitted is unknown, an admitted one is the Realm's
+-- the task of a call; a monitor call of a world that isn't admitted is unknown, an admitted one is
+-- the Realm's
 abbrev pub task_of_ask : Ask → Task
 task_of_ask (ask.Delegate pa source) = task.Delegate pa source
 task_of_ask (ask.Undelegate pa source) = task.Undelegate pa source
-task_of_ask (ask.SmcDelegate pa world) = if is_admitted world then task.Delegate pa source.Realm else task.Unknown
-task_of_ask (ask.SmcUndelegate pa world) = if is_admitted world then task.Undelegate pa source.Realm else task.Unknown
+task_of_ask (ask.SmcDelegate pa world) =
+    if is_admitted world then task.Delegate pa source.Realm else task.Unknown
+task_of_ask (ask.SmcUndelegate pa world) =
+    if is_admitted world then task.Undelegate pa source.Realm else task.Unknown
 
 -- the tasks of a script
 abbrev pub tasks_of : Script → List Task
@@ -73,10 +77,14 @@ map_at map granule = get_or map granule gpi.Any
 abbrev pub round_turns : ℕ → ℕ → List ℕ
 round_turns n turns = flat_map (replicate turns) (range_with_len 0 n)
 
+-- so often one after the other
+abbrev pub rounds_of : ℕ → ℕ → ℕ → List ℕ
+rounds_of n turns times = flat_map (λ k. round_turns n turns) (range_with_len 0 times)
+
 -- the turns of a line of the schedule, by callers
 abbrev pub slot_turns : ℕ → Slot → List ℕ
 slot_turns n (slot.Turn c turns) = replicate turns c
-slot_turns n (slot.Round turns times) = flat_map (λ k. round_turns n turns) (range_with_len 0 times)
+slot_turns n (slot.Round turns times) = rounds_of n turns times
 
 abbrev pub turns_in : Scenario → List ℕ
 turns_in s = flat_map (slot_turns (length s.scripts)) s.schedule

@@ -1,4 +1,5 @@
--- The trace of a schedule: which caller makes which act, what it answers, and which entries it makes.
+-- The trace of a schedule: which caller makes which act, what it answers, and which entries it
+-- makes.
 use Rattle.std.specs.Prelude.{◌≡◌, ◌≢◌, ◌⊎◌, ℕ, ◌/◌, ◌%◌, ◌^◌, ◌<◌, Bool, false, ◌&&◌, List, [], ◌∷◌, length, map, slice_get, Option, Some, None, ◌==◌}
 use Rattle.std.specs.List.{All, filter, flat_map}
 use Rattle.std.specs.Int.{bit_not, w64}
@@ -12,7 +13,7 @@ use Rattle.scenario_text.specs.declared.scenario.Script.TheVariants as script
 use Rattle.history.specs.declared.call.Answer.{Answer}
 use Rattle.history.specs.declared.entry.Entry.{Entry}
 use Rattle.delegate_ops.specs.Script.{CallEvent, Follows, HasStopped}
-use Rattle.core_machine.specs.Scenarios.{task_of_ask, tasks_of}
+use Rattle.core_machine.specs.Scenarios.{task_of_ask}
 
 -- an event of a trace: a caller, and its act with its answer and its entries
 pub record TraceEvent : Type 0 where
@@ -38,16 +39,19 @@ words_after words (e ∷ trace) = words_after (after_act e.event.act words) trac
 abbrev pub AreAnswered : List ℕ → List TraceEvent → Type 0
 AreAnswered words [] = Unit {0}
 AreAnswered words (e ∷ trace) =
-    (place_in e.event.act < length words) × (e.event.old ≡ answer_of e.event.act words) × AreAnswered (after_act e.event.act words) trace
+    (place_in e.event.act < length words) × (e.event.old ≡ answer_of e.event.act words)
+    × AreAnswered (after_act e.event.act words) trace
 
 -- ---- scripts
 
 -- a caller's events follow its script; a processor makes no act yet, and has no answers
 abbrev pub FollowsScript : GeometryData → ℕ → Script → List Answer → List CallEvent → Type 0
-FollowsScript g c (script.Agent asks) answers events = Follows g c (map task_of_ask asks) answers events
+FollowsScript g c (script.Agent asks) answers events =
+    Follows g c (map task_of_ask asks) answers events
 FollowsScript g c (script.Cpu looks) answers events = (answers ≡ []) × (events ≡ [])
 
--- a caller makes no further act: each of its calls is answered, or it has stopped; a processor makes none yet
+-- a caller makes no further act: each of its calls is answered, or it has stopped; a processor
+-- makes none yet
 abbrev pub HasEnded : GeometryData → ℕ → Option Script → List Answer → List CallEvent → Type 0
 HasEnded g c (Some (script.Agent asks)) answers events =
     (length answers ≡ length asks) ⊎ HasStopped g c (map task_of_ask asks) answers events
@@ -59,10 +63,13 @@ abbrev pub answers_by : List (List Answer) → Option (List Answer) → List Ans
 answers_by answers None = []
 answers_by answers (Some own) = own
 
+abbrev pub answers_in : List (List Answer) → ℕ → List Answer
+answers_in answers c = answers_by answers (slice_get answers c)
+
 -- ---- turns
 
--- The events are those of the turns, in their order: each turn makes an event of its caller, or its caller
--- has ended and makes no further event.
+-- The events are those of the turns, in their order: each turn makes an event of its caller, or its
+-- caller has ended and makes no further event.
 abbrev pub TakesTurns : (ℕ → Type 0) → List ℕ → List ℕ → Type 0
 TakesTurns ended [] callers = callers ≡ []
 TakesTurns ended (c ∷ turns) callers =
@@ -73,7 +80,8 @@ TakesTurns ended (c ∷ turns) callers =
 
 -- the act takes lock n, which was free: it sets bit n % 64 of word n / 64
 abbrev pub takes_by : ℕ → ℕ → Act → Bool
-takes_by n old (act.Or place value) = (place == n / 64) && ((value == 2 ^ (n % 64)) && (bit_and old value == 0))
+takes_by n old (act.Or place value) =
+    (place == n / 64) && ((value == 2 ^ (n % 64)) && (bit_and old value == 0))
 takes_by n old a = false
 
 abbrev pub takes : ℕ → TraceEvent → Bool
@@ -89,13 +97,17 @@ releases n e = releases_by n e.event.act
 
 -- ---- the whole
 
--- A trace of these turns, from words before the first act to these answers and words: its callers are those
--- of the turns, less the turns of callers that have ended; each act answers what its word holds; and
--- each caller follows its script.
-pub record IsTrace (g : GeometryData) (scripts : List Script) (before : List ℕ) (turns : List ℕ) (trace : List TraceEvent) (answers : List (List Answer)) (words : List ℕ) : Type 0 where
+-- A trace of these turns, from words before the first act to these answers and words: its callers
+-- are those of the turns, less the turns of callers that have ended; each act answers what its word
+-- holds; and each caller follows its script.
+pub record IsTrace (g : GeometryData) (scripts : List Script) (before : List ℕ) (turns : List ℕ)
+    (trace : List TraceEvent) (answers : List (List Answer)) (words : List ℕ) : Type 0 where
   pub callers : All (λ e. e.caller < length scripts) trace
-  pub turned : TakesTurns (λ c. HasEnded g c (slice_get scripts c) (answers_by answers (slice_get answers c)) (events_of c trace)) turns (map (λ e. e.caller) trace)
+  pub turned : TakesTurns
+      (λ c. HasEnded g c (slice_get scripts c) (answers_in answers c) (events_of c trace))
+      turns (map (λ e. e.caller) trace)
   pub answered : AreAnswered before trace
   pub left : words ≡ words_after before trace
-  pub follows : (c : ℕ) (s : Script) (own : List Answer) → slice_get scripts c ≡ Some s → slice_get answers c ≡ Some own
+  pub follows : (c : ℕ) (s : Script) (own : List Answer) → slice_get scripts c ≡ Some s
+      → slice_get answers c ≡ Some own
       → FollowsScript g c s own (events_of c trace)

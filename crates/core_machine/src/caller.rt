@@ -6,8 +6,8 @@ use history::Answer;
 use shared_words::Act;
 use std::alloc::Global;
 
-/// One that acts on the shared words: an agent, or a processor, of which the number of accesses alone is
-/// kept until processors act.
+/// One that acts on the shared words: an agent, or a processor, of which the number of accesses
+/// alone is kept until processors act.
 #[derive(Debug, Drop)]
 pub enum Caller {
     Agent(Agent),

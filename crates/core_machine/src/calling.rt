@@ -20,8 +20,8 @@ fn admitted(world: World, task: Task) -> Task
     if admits(world) { task } else { Task::Unknown }
 }
 
-/// The task of a call. A call through the monitor is the Realm's where its world is admitted, and `Unknown`
-/// where it isn't.
+/// The task of a call. A call through the monitor is the Realm's where its world is admitted, and
+/// `Unknown` where it isn't.
 pub fn task_of(ask: Ask) -> Task
     ensures { result ≡ task_of_ask ask }
 {
@@ -63,7 +63,8 @@ pub fn callers(
     scenario: &Scenario,
     geometry: Geometry,
 ) -> Result<Vec<Caller>, AllocError>
-    ensures { IfOk result (λ callers. callers.items ≡ map (caller_of geometry) scenario.now.scripts) }
+    ensures { IfOk result
+        (λ callers. callers.items ≡ map (caller_of geometry) scenario.now.scripts) }
 {
     let scripts = scenario.scripts.as_slice();
     let mut callers = Vec::with_capacity(alloc, scripts.len())?;

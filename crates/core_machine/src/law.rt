@@ -1,16 +1,16 @@
 ghost use Rattle.core_machine.specs.InnerLaw.{OneActKeeps};
 ghost use Rattle.core_machine.specs.InnerCallerLaws.{ActsHavePlaces, ActsKeepTheirCaller, AgentsGoOn, WaitsHaveCauses};
 
-/// The law of the core: whatever act a caller makes next, its place is one of the shared words, the caller
-/// can take its answer, and the invariant of the core holds again after it, with the history and the
-/// entries that the act makes.
+/// The law of the core: whatever act a caller makes next, its place is one of the shared words, the
+/// caller can take its answer, and the invariant of the core holds again after it, with the history
+/// and the entries that the act makes.
 pub fn one_act_keeps()
     ensures { OneActKeeps }
 {}
 
-/// What is known of a caller by how it was made alone, whatever its acts are answered: its next act is made on
-/// one of the shared words, an act keeps its geometry and its tasks, and an agent has a next act unless each
-/// of its tasks is answered or it has stopped.
+/// What is known of a caller by how it was made alone, whatever its acts are answered: its next act
+/// is made on one of the shared words, an act keeps its geometry and its tasks, and an agent has a
+/// next act unless each of its tasks is answered or it has stopped.
 pub fn callers_keep_to_their_words()
     ensures places { ActsHavePlaces }
     ensures kept { ActsKeepTheirCaller }

@@ -1,5 +1,5 @@
-//! The core: callers that act on the shared words one act at a time, the facts that stand between any
-//! two acts, and that every act keeps them.
+//! The core: callers that act on the shared words one act at a time, the facts that stand between
+//! any two acts, and that every act keeps them.
 #![tactic(auto)]
 
 mod caller;

@@ -1,9 +1,8 @@
 ghost use Rattle.std.specs.Prelude.{◌≡◌, ◌<◌, ℕ, List, [], ◌++◌, length, false};
 ghost use Rattle.std.specs.List.{All};
 ghost use Rattle.gpi_values.specs.declared.gpi.Gpi.{Gpi};
-ghost use Rattle.history.specs.declared.entry.Entry.{Entry};
 ghost use Rattle.core_machine.specs.InnerOpening.{IsFresh, AreStarting};
-ghost use Rattle.core_machine.specs.InnerMachine.{InvariantFor, after_turn, turn_entries, MachineData};
+ghost use Rattle.core_machine.specs.InnerMachine.{InvariantFor, HasInvariant, KeepsInvariant, after_turn, turn_entries, MachineData, machine_of};
 ghost use Rattle.delegate_ops.specs.InnerAgents.{fresh};
 
 use crate::caller::Caller;
@@ -22,19 +21,20 @@ pub struct Machine<W: Words> {
 impl<W: Words> Model for Machine<W> {
     ghost Value = { MachineData };
 
-    ghost view = { λ m. record { geometry = m.geometry; callers = m.callers.items; words = W.words m.words } };
+    ghost view = { λ m. machine_of m.geometry m.callers.items (W.words m.words) };
 }
 
 impl<W: Words> Machine<W> {
-    /// A machine before the first act: the callers were made with this geometry and have made no act,
-    /// all shared words are there, no lock is held, the tables among them mean a map and their words
-    /// are its canonical ones, duty words and lines are 0, and each generation is the first one. It has the
-    /// invariant with the empty history from that map.
+    /// A machine before the first act: the callers were made with this geometry and have made no
+    /// act, all shared words are there, no lock is held, the tables among them mean a map and their
+    /// words are its canonical ones, duty words and lines are 0, and each generation is the first
+    /// one. It has the invariant with the empty history from that map.
     pub fn new(geometry: Geometry, callers: Vec<Caller>, words: W) -> Machine<W>
         requires fresh { All (IsFresh geometry) callers.items }
         requires starting { (first : List Gpi) × AreStarting geometry first (W.words words) }
-        ensures machine { result ≡ record { geometry = geometry; callers = callers.items; words = W.words words } }
-        ensures invariant { (first : List Gpi) → AreStarting geometry first (W.words words) → InvariantFor first result [] }
+        ensures machine { result ≡ machine_of geometry callers.items (W.words words) }
+        ensures invariant { (first : List Gpi) → AreStarting geometry first (W.words words)
+            → InvariantFor first result [] }
     {
         Machine {
             geometry,
@@ -43,13 +43,13 @@ impl<W: Words> Machine<W> {
         }
     }
 
-    /// A turn of a caller, and whether it may have changed anything: it has not where the caller has no
-    /// act, or had waited and waits again.
+    /// A turn of a caller, and whether it may have changed anything: it has not where the caller
+    /// has no act, or had waited and waits again.
     pub fn step(&mut self, caller: usize) -> bool
         requires caller { caller < length self.old.callers }
-        requires invariant { (first : List Gpi) × (h : List Entry) × InvariantFor first self.old h }
+        requires invariant { HasInvariant self.old }
         ensures turn { self.new ≡ after_turn self.old caller }
-        ensures invariant { (first : List Gpi) (h : List Entry) → InvariantFor first self.old h → InvariantFor first self.new (h ++ turn_entries self.old caller) }
+        ensures invariant { KeepsInvariant self.old self.new (turn_entries self.old caller) }
         ensures still { result ≡ false → self.new ≡ self.old }
     {
         let acting = &mut self.callers[caller];
@@ -64,13 +64,13 @@ impl<W: Words> Machine<W> {
         }
     }
 
-    /// One act of a caller, nothing where it has none. Where the machine had the invariant with a history, it
-    /// has it with that history and the entries of that act.
+    /// One act of a caller, nothing where it has none. Where the machine had the invariant with a
+    /// history, it has it with that history and the entries of that act.
     pub fn turn(&mut self, caller: usize)
         requires caller { caller < length self.old.callers }
-        requires invariant { (first : List Gpi) × (h : List Entry) × InvariantFor first self.old h }
+        requires invariant { HasInvariant self.old }
         ensures turn { self.new ≡ after_turn self.old caller }
-        ensures invariant { (first : List Gpi) (h : List Entry) → InvariantFor first self.old h → InvariantFor first self.new (h ++ turn_entries self.old caller) }
+        ensures invariant { KeepsInvariant self.old self.new (turn_entries self.old caller) }
     {
         self.step(caller);
     }

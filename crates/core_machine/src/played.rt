@@ -89,10 +89,10 @@ fn leave(alloc: Global, machine: Machine<PlainWords>, room: Vec<Listed<Answer>>)
     }
 }
 
-/// All turns of a scenario's schedule, on its built tables: each gives its caller one act, if it has one.
-/// No memory is taken after the first act.
-/// The outcome is what the trace of the schedule leaves, and is that of one legal history, the trace's. It has
-/// all shared words, and no caller has more answers than calls.
+/// All turns of a scenario's schedule, on its built tables: each gives its caller one act, if it
+/// has one. No memory is taken after the first act. The outcome is what the trace of the schedule
+/// leaves, and is that of one legal history, the trace's. It has all shared words, and no caller
+/// has more answers than calls.
 pub fn play(alloc: Global, scenario: &Scenario, tables: Tables) -> Result<Outcome, AllocError>
     requires wellformed { WellFormed scenario.now }
     requires accepted { IsAccepted scenario.now }

@@ -1,21 +1,19 @@
-ghost use Rattle.std.specs.Prelude.{◌≡◌, ◌<◌, ℕ, List, length, replicate, false};
-ghost use Rattle.std.specs.List.{All, flat_map, range_with_len};
-ghost use Rattle.gpi_values.specs.declared.gpi.Gpi.{Gpi};
-ghost use Rattle.history.specs.declared.entry.Entry.{Entry};
-ghost use Rattle.core_machine.specs.InnerMachine.{InvariantFor, after_turns};
+ghost use Rattle.std.specs.Prelude.{◌≡◌, ◌<◌, length, replicate, false};
+ghost use Rattle.std.specs.List.{All, flat_map};
+ghost use Rattle.core_machine.specs.InnerMachine.{HasInvariant, after_turns};
 ghost use Rattle.core_machine.specs.InnerPlay.{NamesCaller};
-ghost use Rattle.core_machine.specs.Scenarios.{round_turns, slot_turns};
+ghost use Rattle.core_machine.specs.Scenarios.{round_turns, rounds_of, slot_turns};
 
 use crate::machine::Machine;
 use scenario_text::Slot;
 use shared_words::Words;
 
 impl<W: Words> Machine<W> {
-    /// This number of turns of one caller, and whether they may have changed anything. It stops at a turn
-    /// that changes nothing, since no later one does.
+    /// This number of turns of one caller, and whether they may have changed anything. It stops at
+    /// a turn that changes nothing, since no later one does.
     fn turns(&mut self, caller: usize, count: u32) -> bool
         requires caller { caller < length self.old.callers }
-        requires invariant { (first : List Gpi) × (h : List Entry) × InvariantFor first self.old h }
+        requires invariant { HasInvariant self.old }
         ensures turns { self.new ≡ after_turns self.old (replicate count caller) }
         ensures still { result ≡ false → self.new ≡ self.old }
     {
@@ -31,8 +29,9 @@ impl<W: Words> Machine<W> {
 
     /// This number of turns of each caller in order, and whether they may have changed anything.
     fn round(&mut self, count: u32) -> bool
-        requires { (first : List Gpi) × (h : List Entry) × InvariantFor first self.old h }
-        ensures turns { self.new ≡ after_turns self.old (round_turns (length self.old.callers) count) }
+        requires { HasInvariant self.old }
+        ensures turns { self.new
+            ≡ after_turns self.old (round_turns (length self.old.callers) count) }
         ensures still { result ≡ false → self.new ≡ self.old }
     {
         let mut changed = false;
@@ -44,8 +43,9 @@ impl<W: Words> Machine<W> {
 
     /// This number of rounds. It stops at a round that changes nothing, since no later one does.
     fn rounds(&mut self, count: u32, times: u32)
-        requires { (first : List Gpi) × (h : List Entry) × InvariantFor first self.old h }
-        ensures { self.new ≡ after_turns self.old (flat_map (λ k. round_turns (length self.old.callers) count) (range_with_len 0 times)) }
+        requires { HasInvariant self.old }
+        ensures { self.new
+            ≡ after_turns self.old (rounds_of (length self.old.callers) count times) }
     {
         for _ in 0..times {
             if !self.round(count) {
@@ -57,7 +57,7 @@ impl<W: Words> Machine<W> {
     /// The turns of a line of the schedule, which names one of the callers.
     fn slot(&mut self, slot: Slot)
         requires names { NamesCaller (length self.old.callers) slot }
-        requires invariant { (first : List Gpi) × (h : List Entry) × InvariantFor first self.old h }
+        requires invariant { HasInvariant self.old }
         ensures { self.new ≡ after_turns self.old (slot_turns (length self.old.callers) slot) }
     {
         match slot {
@@ -71,8 +71,9 @@ impl<W: Words> Machine<W> {
     /// The turns of a schedule.
     pub fn schedule(&mut self, schedule: &[Slot])
         requires names { All (NamesCaller (length self.old.callers)) schedule.now }
-        requires invariant { (first : List Gpi) × (h : List Entry) × InvariantFor first self.old h }
-        ensures { self.new ≡ after_turns self.old (flat_map (slot_turns (length self.old.callers)) schedule.now) }
+        requires invariant { HasInvariant self.old }
+        ensures { self.new
+            ≡ after_turns self.old (flat_map (slot_turns (length self.old.callers)) schedule.now) }
     {
         for slot in schedule {
             self.slot(*slot);

@@ -56,8 +56,8 @@ fn done(generation: u64) -> Answer {
     })
 }
 
-/// The shared words of 4 GB and one Non-secure table, no lock held: the generations are the first ones but
-/// for those around the first granule, and the first L1 word is this one.
+/// The shared words of 4 GB and one Non-secure table, no lock held: the generations are the first
+/// ones but for those around the first granule, and the first L1 word is this one.
 fn words(alloc: Global, first: u64, around: u64, l1_word: u64) -> Result<Vec<u64>, Fail> {
     let mut words = vec![in alloc; 0u64; 34954]?;
     for (place, word) in words.iter_mut().enumerate() {

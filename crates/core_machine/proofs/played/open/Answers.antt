@@ -4,7 +4,6 @@ use Rattle.core_machine.specs.InnerOpening.{IsFresh}
 use Rattle.core_machine.proofs.PlayLemmas.{callers_fresh, starts_at, opened_is}
 use Rattle.core_machine.proofs.played.open.Goals as goal
 use Rattle.core_machine.specs.Scenarios.{first_map}
-use Rattle.delegate_ops.specs.InnerAgents.{fresh}
 
 pub new-requires-2-clause-fresh : goal.new-requires-2-clause-fresh
 new-requires-2-clause-fresh c =

@@ -1,4 +1,4 @@
-use Rattle.std.proofs.Common.{◌≡◌, ◌<◌, ◌+◌, ◌∷◌, [], ℕ, false, replicate, sym, ◌∙◌, subst, arith}
+use Rattle.std.proofs.Common.{◌<◌, ◌+◌, ◌∷◌, [], ℕ, replicate, sym, ◌∙◌, subst}
 use Rattle.core_machine.proofs.MachineLemmas.{holds_after, length_so, turns_more, replicate_more}
 use Rattle.core_machine.proofs.StillLemmas.{turns_end}
 use Rattle.core_machine.proofs.machine.Machine.turns.Goals as goal

@@ -1,0 +1,174 @@
+-- What an act leaves of the shared words: all but the one that it writes. Of each kind of word that is written: which
+-- facts it leaves alone.
+use Rattle.std.proofs.Common.{◌≡◌, ◌≢◌, ℕ, ◌*◌, ◌/◌, ◌%◌, ◌^◌, ◌<◌, List, Bool, true, false, eqb, Option, Some, None, length, set, refl, sym, ap, ◌∙◌, subst, arith, inl, inr, mul_comm}
+use Rattle.std.specs.Prelude.{slice_index}
+use Rattle.std.specs.Int.{bit_at}
+use Rattle.std.specs.Option.{option_map}
+use Rattle.std.proofs.Math.Nat.{div-div-eq-div-mul}
+use Rattle.std.proofs.lemmas.Bool.{cases_Bool}
+use Rattle.std.proofs.lemmas.List.{length-set, get_or-set_other}
+use Rattle.gpi_values.specs.declared.gpi.Gpi.{Gpi}
+use Rattle.gpt_descriptors.specs.declared.size.Size.{Size}
+use Rattle.gpt_descriptors.specs.declared.size.Size.TheVariants as size
+use Rattle.gpt_descriptors.specs.Sizes.{SetupData, word_bytes, words_of, size_bytes, space_bytes}
+use Rattle.gpt_descriptors.specs.Places.{GeometryData, IsGeometry, WordName, IsWordName, Lock, Generation, Duty, Level1, Line, place_of, l0_words, gen_place_of, blocks_in_region, l1_index_of, l1_place_of}
+use Rattle.gpt_descriptors.proofs.SizeLemmas.{words_whole}
+use Rattle.gpt_descriptors.proofs.PlaceLemmas.{place_distinct, generation_named, index_within, l1_index_one}
+use Rattle.bit_locks.specs.Locks.{lock_number, lock_bit}
+use Rattle.history.specs.declared.call.Task.{Task}
+use Rattle.delegate_ops.specs.declared.stage.Stage.{Stage}
+use Rattle.delegate_ops.specs.declared.stage.Stage.TheVariants as stage
+use Rattle.delegate_ops.specs.Deciding.{address_of}
+use Rattle.core_machine.specs.InnerLocks.{is_inside}
+use Rattle.core_machine.specs.InnerSeen.{SeesAt, SeesWord}
+use Rattle.core_machine.specs.InnerTables.{MeansMap}
+use Rattle.core_machine.specs.InnerInvariant.{AreIdle}
+use Rattle.core_machine.specs.Facts.{generation_word}
+use Rattle.core_machine.proofs.TableLemmas.{tables_keep}
+
+-- ---- the word that is written
+
+-- the words after an act that wrote this word, if it wrote one
+pub record Writes (g : GeometryData) (words : List ℕ) (n : Option WordName) (after : List ℕ) : Type 0 where
+  pub size : length after ≡ length words
+  pub beside : (m : WordName) → IsWordName g m → n ≢ Some m → slice_index after (place_of g m) ≡ slice_index words (place_of g m)
+
+pub writes_none : (g : GeometryData) (words : List ℕ) → Writes g words None words
+writes_none g words = record { size = refl; beside = λ m named apart. refl }
+
+pub writes_one : (g : GeometryData) (words : List ℕ) (n : WordName) (v : ℕ) → IsWordName g n → Writes g words (Some n) (set words (place_of g n) v)
+writes_one g words n v named = record {
+  size = length-set words (place_of g n) v;
+  beside = λ m there apart.
+      get_or-set_other words (place_of g n) (place_of g m) v 0 (λ same. apart (ap Some (sym (place_distinct g m n there named same))));
+}
+
+-- ---- what it leaves, by its kind
+
+abbrev pub is_lock : Option WordName → Bool
+is_lock (Some (Lock b)) = true
+is_lock n = false
+
+abbrev pub is_generation : Option WordName → Bool
+is_generation (Some (Generation z block)) = true
+is_generation n = false
+
+abbrev pub is_level1 : Option WordName → Bool
+is_level1 (Some (Level1 i)) = true
+is_level1 n = false
+
+-- duty words and lines, which no act writes yet
+abbrev pub is_idle : Option WordName → Bool
+is_idle (Some (Duty cpu)) = true
+is_idle (Some (Line i)) = true
+is_idle n = false
+
+differs : (p : Option WordName → Bool) (n m : Option WordName) → p n ≡ false → p m ≡ true → n ≢ m
+differs p n m unlike is same = let both : true ≡ false = sym is ∙ ap p (sym same) ∙ unlike in cc
+
+module _ {g : GeometryData} {words : List ℕ} {n : Option WordName} {after : List ℕ} (writes : Writes g words n after) where
+  pub tables_left : (map : List Gpi) → is_level1 n ≡ false → IsGeometry g → MeansMap g words map → MeansMap g after map
+  tables_left map unlike geometry means =
+      tables_keep g words after map geometry (λ i low. writes.beside (Level1 i) low (differs is_level1 n (Some (Level1 i)) unlike refl)) means
+
+  pub locks_left : is_lock n ≡ false → (m : ℕ) → m < 128 → lock_bit after m ≡ lock_bit words m
+  locks_left unlike m low =
+      ap (λ (word : ℕ). bit_at word (m % 64)) (writes.beside (Lock (m / 64)) (omega (arith, low)) (differs is_lock n (Some (Lock (m / 64))) unlike refl))
+
+  pub generation_left : (y : Size) (region : ℕ) → region < blocks_in_region y * g.setup.gigabytes → n ≢ Some (Generation y region)
+      → generation_word g after y region ≡ generation_word g words y region
+  generation_left y region within apart = writes.beside (Generation y region) within apart
+
+  pub generations_left : is_generation n ≡ false → (y : Size) (region : ℕ) → region < blocks_in_region y * g.setup.gigabytes
+      → generation_word g after y region ≡ generation_word g words y region
+  generations_left unlike y region within = generation_left y region within (differs is_generation n (Some (Generation y region)) unlike refl)
+
+  pub idle_left : is_idle n ≡ false → AreIdle g words → AreIdle g after
+  idle_left unlike idle = record {
+    duty = λ cpu low. writes.beside (Duty cpu) low (differs is_idle n (Some (Duty cpu)) unlike refl) ∙ idle.duty cpu low;
+    lines = λ i low. writes.beside (Line i) low (differs is_idle n (Some (Line i)) unlike refl) ∙ idle.lines i low;
+  }
+
+-- ---- addresses of one lock
+
+number_by_block : (s : SetupData) (p q : ℕ) → p / 2 ^ 29 ≡ q / 2 ^ 29 → lock_number s p ≡ lock_number s q
+number_by_block s p q same =
+    elim (cases_Bool (eqb s.lock_blocks 0)) [ inl none ↦ rw none refl | inr some ↦ rw some (ap (λ (b : ℕ). b / s.lock_blocks) same) ]
+
+wider : (p q n m : ℕ) → p / n ≡ q / n → p / (n * m) ≡ q / (n * m)
+wider p q n m same = sym (div-div-eq-div-mul p n m) ∙ ap (λ (b : ℕ). b / m) same ∙ div-div-eq-div-mul q n m
+
+-- a region of any size lies in one lock block
+pub number_by_region : (s : SetupData) (y : Size) (p q : ℕ) → p / size_bytes y ≡ q / size_bytes y → lock_number s p ≡ lock_number s q
+number_by_region s size.Two p q same = number_by_block s p q (wider p q (2 ^ 21) 256 same)
+number_by_region s size.ThirtyTwo p q same = number_by_block s p q (wider p q (2 ^ 25) 16 same)
+number_by_region s size.FiveTwelve p q same = number_by_block s p q same
+
+-- and so does an L1 word
+pub number_by_word : (s : SetupData) (p q : ℕ) → p / word_bytes s ≡ q / word_bytes s → lock_number s p ≡ lock_number s q
+number_by_word s p q same =
+    let whole : word_bytes s * words_of s size.FiveTwelve ≡ 2 ^ 29 = mul_comm (word_bytes s) (words_of s size.FiveTwelve) ∙ words_whole s size.FiveTwelve in
+    number_by_block s p q (subst (λ (n : ℕ). p / n ≡ q / n) whole (wider p q (word_bytes s) (words_of s size.FiveTwelve) same))
+
+-- ---- words that a call keeps
+
+word_place : (g : GeometryData) (pa place : ℕ) (o : Option ℕ) → l1_index_of g pa ≡ o → option_map (λ i. place_of g (Level1 i)) o ≡ Some place → (i : ℕ) × (l1_index_of g pa ≡ Some i) × (place ≡ place_of g (Level1 i))
+word_place g pa place None index there = absurd cc
+word_place g pa place (Some i) index there = (i, index, cc)
+
+-- the index of the L1 word at a place
+pub index_at : (g : GeometryData) (pa place : ℕ) → l1_place_of g pa ≡ Some place → (i : ℕ) × (l1_index_of g pa ≡ Some i) × (place ≡ place_of g (Level1 i))
+index_at g pa place there = word_place g pa place (l1_index_of g pa) refl there
+
+-- the word is of lock block m: the L1 word or a generation of one of its addresses, or a word that no call keeps
+abbrev pub IsOfBlock : GeometryData → ℕ → Option WordName → Type 0
+IsOfBlock g m (Some (Generation z block)) = (q : ℕ) × (block ≡ q / size_bytes z) × (lock_number g.setup q ≡ m)
+IsOfBlock g m (Some (Level1 i)) = (q : ℕ) × (l1_index_of g q ≡ Some i) × (lock_number g.setup q ≡ m)
+IsOfBlock g m n = Unit {0}
+
+other_word : (g : GeometryData) (m : ℕ) (n : Option WordName) (pa i : ℕ) → IsOfBlock g m n → lock_number g.setup pa ≢ m → l1_index_of g pa ≡ Some i → n ≢ Some (Level1 i)
+other_word g m (Some (Level1 j)) pa i of apart index same =
+    let there : l1_index_of g of.0 ≡ Some i = of.1 ∙ same_index j i same in
+    apart (number_by_word g.setup pa of.0 (l1_index_one g.setup (l0_words g) _ _ i index there) ∙ of.2)
+  where
+    same_index : (j i : ℕ) → Some (Level1 j) ≡ Some (Level1 i) → Some j ≡ Some i
+    same_index j i same = cc
+other_word g m n pa i of apart index same = cc
+
+other_generation : (g : GeometryData) (m : ℕ) (n : Option WordName) (pa : ℕ) (y : Size) → IsOfBlock g m n → lock_number g.setup pa ≢ m → n ≢ Some (Generation y (pa / size_bytes y))
+other_generation g m (Some (Generation z block)) pa y of apart same =
+    let size_same : z ≡ y = cc in
+    let region : block ≡ pa / size_bytes y = cc in
+    apart (number_by_region g.setup y pa of.0 (sym region ∙ of.1 ∙ ap (λ (x : Size). of.0 / size_bytes x) size_same) ∙ of.2)
+other_generation g m n pa y of apart same = cc
+
+-- the words that a call keeps are as they were
+pub record KeepsWords (g : GeometryData) (words after : List ℕ) (t : Task) : Type 0 where
+  pub word : (place : ℕ) → l1_place_of g (address_of t) ≡ Some place → slice_index after place ≡ slice_index words place
+  pub generations : (y : Size) → slice_index after (gen_place_of g y (address_of t)) ≡ slice_index words (gen_place_of g y (address_of t))
+
+-- a word of another lock block was written
+pub words_kept : {g : GeometryData} {words : List ℕ} {n : Option WordName} {after : List ℕ} (m : ℕ) (t : Task) → Writes g words n after → IsOfBlock g m n → IsGeometry g → address_of t < space_bytes g.setup
+    → lock_number g.setup (address_of t) ≢ m → KeepsWords g words after t
+words_kept {g = g} {words = words} {n = n} {after = after} m t writes of geometry inside apart = record {
+  word = λ place there.
+      let at = index_at g (address_of t) place there in
+      ap (slice_index after) at.2 ∙ writes.beside (Level1 at.0) (index_within g (address_of t) at.0 geometry at.1) (other_word g m n (address_of t) at.0 of apart at.1) ∙ ap (slice_index words) (sym at.2);
+  generations = λ y. writes.beside (Generation y (address_of t / size_bytes y)) (generation_named g y (address_of t) inside) (other_generation g m n (address_of t) y of apart);
+}
+
+word_left : (g : GeometryData) (words after : List ℕ) (t : Task) (word : ℕ) (found : Option Gpi) → KeepsWords g words after t → SeesWord g words t word found → SeesWord g after t word found
+word_left g words after t word found keeps sees = record { stands = λ place there. keeps.word place there ∙ sees.stands place there; gives = sees.gives }
+
+-- what a call sees at its stage it still sees
+pub sees_left : (g : GeometryData) (words after : List ℕ) (s : Stage) (o : Option Task) → ((t : Task) → o ≡ Some t → is_inside s ≡ true → KeepsWords g words after t) → SeesAt g words s o → SeesAt g after s o
+sees_left g words after (stage.Reading z k) (Some t) keeps sees =
+    let kept = keeps t refl refl in
+    record { word = word_left g words after t k.word _ kept sees.word; generations = λ y before. kept.generations y ∙ sees.generations y before }
+sees_left g words after (stage.Changing c k) (Some t) keeps sees =
+    let kept = keeps t refl refl in
+    record { word = word_left g words after t k.word _ kept sees.word; granules = sees.granules; generations = λ y. kept.generations y ∙ sees.generations y }
+sees_left g words after (stage.Raising c z k) (Some t) keeps sees =
+    let kept = keeps t refl refl in
+    record { word = word_left g words after t k.word _ kept sees.word; granules = sees.granules; generations = λ y. kept.generations y ∙ sees.generations y }
+sees_left g words after s o keeps sees = tt
