@@ -3,8 +3,9 @@ use Rattle.std.specs.Prelude.{◌≡◌, ◌⊎◌, ℕ, ◌+◌, ◌*◌, ◌<�
 use Rattle.std.specs.List.{All, list_any}
 use Rattle.gpi_values.specs.declared.gpi.Gpi.{Gpi}
 use Rattle.gpt_descriptors.specs.declared.size.Size.{Size}
-use Rattle.gpt_descriptors.specs.declared.size.MaxBlock.TheVariants as most
-use Rattle.gpt_descriptors.specs.Sizes.{SetupData, granule_bytes, size_bytes}
+use Rattle.gpt_descriptors.specs.Sizes.{SetupData, granule_bytes, word_bytes, size_bytes}
+use Rattle.gpt_descriptors.specs.Canonical.{canonical_word}
+use Rattle.gpt_descriptors.specs.Level0.{l1_index}
 use Rattle.gpt_descriptors.specs.Places.{GeometryData, Duty, Line, place_of, l0_words, l1_words, blocks_in_region, word_count}
 pub use Rattle.gpt_descriptors.specs.Places.{table_part, generation_word}
 use Rattle.table_meaning.specs.Meaning.{TablesMean, AreCanonical}
@@ -80,6 +81,11 @@ map_after first h = map_at (state_after (start first) h).map
 abbrev pub count_for : GeometryData → Size → ℕ → List Entry → ℕ
 count_for g y region h = count_of g.setup.first (granule_bytes g.setup) y region h
 
+-- each call has an answer
+abbrev pub AllAnswered : List (List Task) → List (List Answer) → Type 0
+AllAnswered tasks answers =
+    (c k : ℕ) (t : Task) → task_at tasks c k ≡ Some t → answer_at answers c k ≡ None → ⊥
+
 -- Answers and words fit a history from a first map: it is legal, it has the entries of each call
 -- once and in its caller's order, and the words are those of its last map and its counts.
 pub record FitsHistory (g : GeometryData) (first : List Gpi) (tasks : List (List Task))
@@ -97,18 +103,20 @@ pub record FitsHistory (g : GeometryData) (first : List Gpi) (tasks : List (List
   -- transitions on one lock block don't mix
   pub undisturbed : AreUndisturbed g.setup h
   pub alone : AreAlone g.setup answers h
-  -- the tables mean the last map, and where the setup uses no contiguous entries their words are
-  -- canonical
+  -- the tables mean the last map; where the lock of a word's block is clear the word is canonical
   pub tables : TablesMean g.setup (l0_words g) (table_part g words) (map_after first h)
-  pub canonical : g.setup.max ≡ most.Zero
-      → AreCanonical g.setup (l0_words g) (table_part g words) (map_after first h)
+  pub canonical : (w i : ℕ) → l1_index g.setup (l0_words g) w ≡ Some i
+      → lock_bit words (lock_number g.setup (w * word_bytes g.setup)) ≡ 0
+      → slice_index (table_part g words) i ≡ canonical_word g.setup (map_after first h) None w
   -- a generation is the count of its region, or one less while its lock is held
   pub generations : (y : Size) (region : ℕ) → region < blocks_in_region y * g.setup.gigabytes
       → (generation_word g words y region ≡ count_for g y region h)
       ⊎ ((generation_word g words y region + 1 ≡ count_for g y region h)
       × (lock_bit words (lock_number g.setup (region * size_bytes y)) ≡ 1))
-  -- where each call is answered no lock is held; duty words and lines aren't used yet
-  pub ended : ((c k : ℕ) (t : Task) → task_at tasks c k ≡ Some t → answer_at answers c k ≡ None → ⊥)
-      → (n : ℕ) → n < 128 → lock_bit words n ≡ 0
+  -- where each call is answered no lock is held and the tables are the canonical ones of the last map
+  pub ended : AllAnswered tasks answers → (n : ℕ) → n < 128 → lock_bit words n ≡ 0
+  pub whole : AllAnswered tasks answers
+      → AreCanonical g.setup (l0_words g) (table_part g words) (map_after first h)
+  -- duty words and lines aren't used yet
   pub duty : (cpu : ℕ) → cpu < g.cpus → slice_index words (place_of g (Duty cpu)) ≡ 0
   pub lines : (i : ℕ) → i < l1_words g → slice_index words (place_of g (Line i)) ≡ 0

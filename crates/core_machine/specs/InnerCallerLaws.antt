@@ -37,7 +37,7 @@ ActsKeepTheirCaller =
     (g : GeometryData) (c : Caller) (old : ℕ) → IsCallerOf g c → IsCallerOf g (caller_took c old)
     × (agent_tasks (caller_took c old) ≡ agent_tasks c)
 
--- an agent has a next act unless each of its tasks is answered, or it has stopped
+-- an agent has a next act unless each of its tasks is answered
 abbrev pub AgentsGoOn : Type 0
 AgentsGoOn =
     (a : AgentData) → IsAgent a → has_ended a ≡ false

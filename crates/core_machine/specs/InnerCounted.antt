@@ -3,6 +3,7 @@ use Rattle.std.specs.Prelude.{◌≡◌, ℕ, List, [], ◌∷◌, ◌++◌, sli
 use Rattle.gpt_descriptors.specs.Places.{GeometryData}
 use Rattle.history.specs.declared.call.Task.{Task}
 use Rattle.history.specs.declared.call.Answer.{Answer}
+use Rattle.history.specs.declared.call.Answer.TheVariants as answer
 use Rattle.history.specs.declared.entry.Entry.{Entry}
 use Rattle.delegate_ops.specs.declared.stage.Stage.{Stage}
 use Rattle.delegate_ops.specs.declared.stage.Stage.TheVariants as stage
@@ -12,7 +13,8 @@ use Rattle.core_machine.specs.Facts.{IsCounted}
 
 -- the answer that the call under way is to have, where it is known
 abbrev pub coming_at : Stage → List Answer
-coming_at (stage.Releasing (Some given)) = given ∷ []
+coming_at (stage.Merging f k) = answer.Done k ∷ []
+coming_at (stage.Releasing given) = given ∷ []
 coming_at s = []
 
 abbrev pub known_answers : Caller → List Answer

@@ -10,7 +10,7 @@ use Rattle.delegate_ops.specs.InnerAgents.{IsAgent}
 use Rattle.delegate_ops.specs.Script.{CallEvent}
 use Rattle.core_machine.specs.declared.caller.Caller.{Caller}
 use Rattle.core_machine.specs.declared.caller.Caller.TheVariants as caller
-use Rattle.core_machine.specs.InnerTables.{MeansMap}
+use Rattle.core_machine.specs.InnerTables.{AreTables}
 use Rattle.core_machine.specs.InnerLocks.{LocksAreHeld}
 use Rattle.core_machine.specs.InnerOpened.{OpenAreHeld}
 use Rattle.core_machine.specs.InnerSeen.{Sees}
@@ -18,7 +18,7 @@ use Rattle.core_machine.specs.InnerRaised.{GenerationsCount}
 use Rattle.core_machine.specs.InnerAlone.{HoldersAreAlone}
 use Rattle.core_machine.specs.InnerCounted.{AnswersCount}
 use Rattle.core_machine.specs.InnerHistory.{IsHistoryOf}
-use Rattle.core_machine.specs.Facts.{AreUndisturbed}
+use Rattle.core_machine.specs.Facts.{map_after, AreUndisturbed}
 use Rattle.delegate_ops.specs.InnerScript.{HasWalked}
 
 -- the caller was made with this geometry, and has come to its stage by some events of its script
@@ -43,10 +43,11 @@ pub record AreIdle (g : GeometryData) (words : List ℕ) : Type 0 where
 pub record Invariant (g : GeometryData) (first : List Gpi) (words : List ℕ) (callers : List Caller)
     (h : List Entry) : Type 0 where
   pub shape : HasShape g first words callers
-  pub tables : MeansMap g words (state_after (start first) h).map
+  pub tables : AreTables g words callers (map_after first h)
   pub opened : OpenAreHeld (state_after (start first) h).opened callers
   pub locks : LocksAreHeld words callers
-  pub seen : (c : ℕ) (caller : Caller) → slice_get callers c ≡ Some caller → Sees words caller
+  pub seen : (c : ℕ) (caller : Caller) → slice_get callers c ≡ Some caller
+      → Sees (map_after first h) words caller
   pub generations : GenerationsCount g words callers h
   pub undisturbed : AreUndisturbed g.setup h
   pub alone : HoldersAreAlone g.setup callers h

@@ -13,7 +13,6 @@ use Rattle.core_machine.specs.declared.caller.Caller.TheVariants as caller
 -- a call is between its lock and its unlock
 abbrev pub is_inside : Stage → Bool
 is_inside stage.Locking = false
-is_inside stage.Stopped = false
 is_inside s = true
 
 abbrev pub is_lock_of : GeometryData → ℕ → Option Task → Bool

@@ -6,10 +6,12 @@ use Rattle.gpt_descriptors.specs.Sizes.{space_granules}
 use Rattle.gpt_descriptors.specs.Canonical.{canonical_word}
 use Rattle.gpt_descriptors.specs.Level0.{l1_index}
 use Rattle.gpt_descriptors.specs.Places.{GeometryData, IsGeometry, Lock, Duty, Line, place_of, l0_words, l1_words, word_count, blocks_in_region}
+use Rattle.table_meaning.specs.Meaning.{BlocksMean}
 use Rattle.delegate_ops.specs.InnerAgents.{IsAgent, fresh}
 use Rattle.core_machine.specs.declared.caller.Caller.{Caller}
 use Rattle.core_machine.specs.declared.caller.Caller.TheVariants as caller
-use Rattle.core_machine.specs.InnerTables.{table_word, MeansMap}
+use Rattle.core_machine.specs.InnerTables.{table_word}
+use Rattle.core_machine.specs.Scenarios.{map_at}
 use Rattle.core_machine.specs.Facts.{generation_word}
 
 -- the caller was made with this geometry and has made no act
@@ -17,24 +19,17 @@ abbrev pub IsFresh : GeometryData → Caller → Type 0
 IsFresh g (caller.Agent a) = (a ≡ fresh g a.tasks) × IsAgent a
 IsFresh g (caller.Cpu looks) = Unit {0}
 
--- each L1 word is the canonical word of this map
-abbrev pub AreCanonicalWords : GeometryData → List Gpi → List ℕ → Type 0
-AreCanonicalWords g first words =
-    (m : ℕ → Gpi)
-    × ((granule : ℕ) → granule < space_granules g.setup
-    → slice_get first granule ≡ Some (m granule))
-    × ((w i : ℕ) → l1_index g.setup (l0_words g) w ≡ Some i
-    → table_word g words i ≡ canonical_word g.setup m None w)
-
--- All words are there, no lock is held, the tables mean a map and their words are its canonical
--- ones, duty words and lines are 0, and each generation is the first one.
+-- All words are there, no lock is held, the L1 words are the canonical ones of a map and each granule
+-- below an L0 block has the block's GPI in it, duty words and lines are 0, and each generation is the
+-- first one.
 pub record AreStarting (g : GeometryData) (first : List Gpi) (words : List ℕ) : Type 0 where
   pub geometry : IsGeometry g
   pub size : length words ≡ word_count g
   pub free : (n : ℕ) → n < 2 → slice_index words (place_of g (Lock n)) ≡ 0
   pub granules : length first ≡ space_granules g.setup
-  pub tables : MeansMap g words first
-  pub canonical : AreCanonicalWords g first words
+  pub canonical : (w i : ℕ) → l1_index g.setup (l0_words g) w ≡ Some i
+      → table_word g words i ≡ canonical_word g.setup (map_at first) None w
+  pub blocks : BlocksMean g.setup (l0_words g) (map_at first)
   pub duty : (cpu : ℕ) → cpu < g.cpus → slice_index words (place_of g (Duty cpu)) ≡ 0
   pub lines : (i : ℕ) → i < l1_words g → slice_index words (place_of g (Line i)) ≡ 0
   pub generations : (y : Size) (region : ℕ) → region < blocks_in_region y * g.setup.gigabytes

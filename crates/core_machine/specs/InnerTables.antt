@@ -1,51 +1,47 @@
--- What the L1 words among the shared words mean.
-use Rattle.std.specs.Prelude.{◌≡◌, ℕ, ◌*◌, ◌/◌, ◌^◌, ◌<◌, true, List, slice_get, slice_index, Option, Some, None}
+-- What the L1 words among the shared words are, by the map and by where each caller is.
+use Rattle.std.specs.Prelude.{ℕ, List, map, slice_index, Option, Some, None}
 use Rattle.gpi_values.specs.declared.gpi.Gpi.{Gpi}
-use Rattle.gpt_descriptors.specs.declared.size.Size.{Size}
-use Rattle.gpt_descriptors.specs.declared.entry.L1Entry.{L1Entry}
-use Rattle.gpt_descriptors.specs.declared.entry.L1Entry.TheVariants as l1
-use Rattle.gpt_descriptors.specs.Sizes.{granule_bytes, space_granules, words_of, is_permitted}
-use Rattle.gpt_descriptors.specs.Entries.{l1_entry, word_gpi}
-use Rattle.gpt_descriptors.specs.Canonical.{canonical_word, CoversEqual}
-use Rattle.gpt_descriptors.specs.Level0.{l1_index}
-use Rattle.gpt_descriptors.specs.Places.{GeometryData, Level1, place_of, l0_words, l1_words, l1_place_of, block_gpi_of}
-use Rattle.delegate_ops.specs.Deciding.{granule_place}
-use Rattle.core_machine.specs.Scenarios.{map_at}
-
--- the GPI that the tables give the granule of an address: that of its L0 block, or that of its L1
--- word
-abbrev pub gpi_by : GeometryData → List ℕ → ℕ → Option ℕ → Option Gpi
-gpi_by g words pa None = block_gpi_of g pa
-gpi_by g words pa (Some place) = word_gpi (slice_index words place) (granule_place g pa)
-
-abbrev pub table_gpi : GeometryData → List ℕ → ℕ → Option Gpi
-table_gpi g words pa = gpi_by g words pa (l1_place_of g pa)
+use Rattle.gpt_descriptors.specs.Places.{GeometryData, Level1, place_of, l0_words}
+use Rattle.table_meaning.specs.Meaning.{BlocksMean}
+use Rattle.table_meaning.specs.Equation.{Holder, Whole, apart_by, AreWords}
+use Rattle.table_meaning.specs.Facts as facts
+use Rattle.history.specs.declared.call.Task.{Task}
+use Rattle.delegate_ops.specs.declared.stage.Stage.{Stage}
+use Rattle.delegate_ops.specs.declared.stage.Stage.TheVariants as stage
+use Rattle.delegate_ops.specs.Script.{granule_of_task}
+use Rattle.delegate_ops.specs.InnerAgents.{task_of}
+use Rattle.core_machine.specs.declared.caller.Caller.{Caller}
+use Rattle.core_machine.specs.declared.caller.Caller.TheVariants as caller
 
 -- the L1 word with this number among all L1 words
 abbrev pub table_word : GeometryData → List ℕ → ℕ → ℕ
 table_word g words i = slice_index words (place_of g (Level1 i))
 
--- The tables mean a map: each granule has the map's GPI, a contiguous entry is of a permitted size
--- and fills its aligned block, and each L1 word has 64 bits.
-pub record MeansMap (g : GeometryData) (words : List ℕ) (map : List Gpi) : Type 0 where
-  pub meaning : (granule : ℕ) → granule < space_granules g.setup
-      → table_gpi g words (granule * granule_bytes g.setup) ≡ slice_get map granule
-  pub fills : (i j : ℕ) (z : Size) (gpi : Gpi) → i < l1_words g → j < l1_words g
-      → l1_entry (table_word g words i) ≡ Some (l1.Contig z gpi)
-      → j / words_of g.setup z ≡ i / words_of g.setup z
-      → table_word g words j ≡ table_word g words i
-  pub permitted : (i : ℕ) (z : Size) (gpi : Gpi) → i < l1_words g
-      → l1_entry (table_word g words i) ≡ Some (l1.Contig z gpi) → is_permitted g.setup.max z ≡ true
-  pub bounded : (i : ℕ) → i < l1_words g → table_word g words i < 2 ^ 64
+-- what a call under way knows of the map, by its stage
+abbrev pub known_at : Stage → facts.Stage
+known_at (stage.Reading z k) = facts.Looked k.word
+known_at (stage.Splitting z d k) = facts.Splits z d.gpi d.made
+known_at (stage.Changing c k) = facts.Keeps k.word
+known_at (stage.Raising c z k) = facts.Keeps k.word
+known_at (stage.Merging f k) = facts.Merges f.gpi f.step
+known_at s = facts.Idle
 
--- each L1 word is the canonical word of the map
-abbrev pub AreCanonical : GeometryData → List ℕ → List Gpi → Type 0
-AreCanonical g words map =
-    (w i : ℕ) → l1_index g.setup (l0_words g) w ≡ Some i
-    → table_word g words i ≡ canonical_word g.setup (map_at map) None w
+-- the granule of the task under way, if there is one
+abbrev pub granule_under_way : GeometryData → Option Task → ℕ
+granule_under_way g None = 0
+granule_under_way g (Some t) = granule_of_task g t
 
--- every granule of the aligned block of a contiguous word has the word's GPI in the map
-abbrev pub CoverEqual : GeometryData → List ℕ → List Gpi → Type 0
-CoverEqual g words map =
-    (w i : ℕ) (e : L1Entry) → l1_index g.setup (l0_words g) w ≡ Some i
-    → l1_entry (table_word g words i) ≡ Some e → CoversEqual g.setup (map_at map) w e
+-- where a caller is in what it does to the L1 words
+abbrev pub holder_by : Caller → Holder
+holder_by (caller.Agent a) = record {
+  granule = granule_under_way a.geometry (task_of a);
+  step = facts.step_of (known_at a.stage);
+}
+holder_by (caller.Cpu looks) = record { granule = 0; step = Whole }
+
+-- Each L1 word is the canonical word of the map, apart from a granule or not by where the callers
+-- are, and each granule below an L0 block has the block's GPI in the map.
+pub record AreTables (g : GeometryData) (words : List ℕ) (callers : List Caller)
+    (m : ℕ → Gpi) : Type 0 where
+  pub words : AreWords g m (apart_by g.setup (map holder_by callers)) words
+  pub blocks : BlocksMean g.setup (l0_words g) m

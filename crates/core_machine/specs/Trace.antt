@@ -12,7 +12,7 @@ use Rattle.scenario_text.specs.declared.scenario.Script.{Script}
 use Rattle.scenario_text.specs.declared.scenario.Script.TheVariants as script
 use Rattle.history.specs.declared.call.Answer.{Answer}
 use Rattle.history.specs.declared.entry.Entry.{Entry}
-use Rattle.delegate_ops.specs.Script.{CallEvent, Follows, HasStopped}
+use Rattle.delegate_ops.specs.Script.{CallEvent, Follows}
 use Rattle.core_machine.specs.Scenarios.{task_of_ask}
 
 -- an event of a trace: a caller, and its act with its answer and its entries
@@ -50,13 +50,11 @@ FollowsScript g c (script.Agent asks) answers events =
     Follows g c (map task_of_ask asks) answers events
 FollowsScript g c (script.Cpu looks) answers events = (answers ≡ []) × (events ≡ [])
 
--- a caller makes no further act: each of its calls is answered, or it has stopped; a processor
--- makes none yet
-abbrev pub HasEnded : GeometryData → ℕ → Option Script → List Answer → List CallEvent → Type 0
-HasEnded g c (Some (script.Agent asks)) answers events =
-    (length answers ≡ length asks) ⊎ HasStopped g c (map task_of_ask asks) answers events
-HasEnded g c (Some (script.Cpu looks)) answers events = Unit {0}
-HasEnded g c None answers events = Unit {0}
+-- a caller makes no further act: each of its calls is answered; a processor makes none yet
+abbrev pub HasEnded : Option Script → List Answer → Type 0
+HasEnded (Some (script.Agent asks)) answers = length answers ≡ length asks
+HasEnded (Some (script.Cpu looks)) answers = Unit {0}
+HasEnded None answers = Unit {0}
 
 -- the answers of a caller
 abbrev pub answers_by : List (List Answer) → Option (List Answer) → List Answer
@@ -104,8 +102,8 @@ pub record IsTrace (g : GeometryData) (scripts : List Script) (before : List ℕ
     (trace : List TraceEvent) (answers : List (List Answer)) (words : List ℕ) : Type 0 where
   pub callers : All (λ e. e.caller < length scripts) trace
   pub turned : TakesTurns
-      (λ c. HasEnded g c (slice_get scripts c) (answers_in answers c) (events_of c trace))
-      turns (map (λ e. e.caller) trace)
+      (λ c. HasEnded (slice_get scripts c) (answers_in answers c)) turns
+      (map (λ e. e.caller) trace)
   pub answered : AreAnswered before trace
   pub left : words ≡ words_after before trace
   pub follows : (c : ℕ) (s : Script) (own : List Answer) → slice_get scripts c ≡ Some s
