@@ -43,5 +43,5 @@ holder_by (caller.Cpu looks) = record { granule = 0; step = Whole }
 -- are, and each granule below an L0 block has the block's GPI in the map.
 pub record AreTables (g : GeometryData) (words : List ℕ) (callers : List Caller)
     (m : ℕ → Gpi) : Type 0 where
-  pub words : AreWords g m (apart_by g.setup (map holder_by callers)) words
+  pub level1 : AreWords g m (apart_by g.setup (map holder_by callers)) words
   pub blocks : BlocksMean g.setup (l0_words g) m
