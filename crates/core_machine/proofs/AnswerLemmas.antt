@@ -66,7 +66,7 @@ worn_cause : (o : Option Size) (f : Size → ℕ) (a : Answer) → option_map (�
 worn_cause None f a worn = absurd cc
 worn_cause (Some z) f a worn = subst (λ (x : Answer). is_decided x ≡ true) (let is : answer.Worn z (f z) ≡ a = cc in is) refl
 
-decided_cause : (g : GeometryData) (c n : ℕ) (t : Task) (given : Answer) (events : List CallEvent) → Decides g c n t (Some given) events → is_decided given ≡ true
+decided_cause : (g : GeometryData) (c n : ℕ) (t : Task) (given : Answer) (events : List CallEvent) → Decides g c n t given events → is_decided given ≡ true
 decided_cause g c n t given events (inl refused) = refusal_cause t (word_gpi refused.word (granule_place g (address_of t))) given refused.refused
 decided_cause g c n t given events (inr (inl worn)) =
     worn_cause (find (λ z. is_worn (generation_in z worn.generations)) (size.Two ∷ size.ThirtyTwo ∷ size.FiveTwelve ∷ [])) (λ z. generation_in z worn.generations) given worn.worn
@@ -141,7 +141,6 @@ past_end (x ∷ xs) (suc k) none = let rest = past_end xs k none in omega (arith
 
 inside_by : (g : GeometryData) (c n : ℕ) (s : Stage) (t : Task) (p : Entry → Bool) → list_any p (entries_at g c n s (Some t)) ≡ true → is_inside s ≡ true
 inside_by g c n stage.Locking t p some = absurd cc
-inside_by g c n stage.Stopped t p some = absurd cc
 inside_by g c n s t p some = refl
 
 -- the call under way of an agent, which has an entry that passes a test
@@ -155,7 +154,7 @@ pub record UnderWay (g : GeometryData) (c k : ℕ) (a : AgentData) (p : Entry �
   pub passes : p entry ≡ true
   pub some : list_any p (entries_at g c (length a.answers) a.stage (Some task)) ≡ true
 
-under_way_by : (g : GeometryData) (c k : ℕ) (a : AgentData) (p : Entry → Bool) (o : Option Task) (events : List CallEvent) → task_of a ≡ o → HasActs g o → IsStage a.stage o → IsPrefix g c (length a.answers) a.stage o events
+under_way_by : (g : GeometryData) (c k : ℕ) (a : AgentData) (p : Entry → Bool) (o : Option Task) (events : List CallEvent) → task_of a ≡ o → HasActs g o → IsStage g a.stage o → IsPrefix g c (length a.answers) a.stage o events
     → ((e : Entry) → p e ≡ true → is_by c k e ≡ true) → list_any p (entries_at g c (length a.answers) a.stage o) ≡ true → UnderWay g c k a p
 under_way_by g c k a p None events next acts fits prefix by some =
     absurd (let none = prefix_fits g c (length a.answers) a.stage None events fits prefix in let both : list_any p [] ≡ true = subst (λ (es : List Entry). list_any p es ≡ true) none some in cc)
@@ -302,10 +301,13 @@ get_after (y ∷ xs) x = get_after xs x
 
 -- the entries at a stage refuse only where the call is to be answered so
 worn_at : (g : GeometryData) (c n k : ℕ) (s : Stage) (t : Task) (found : Gpi) (events : List CallEvent) → needed t ≡ Some found → IsPrefix g c n s (Some t) events → list_any (refused_by c k found) (entries_at g c n s (Some t)) ≡ true
-    → (z : Size) × (value : ℕ) × (s ≡ stage.Releasing (Some (answer.Worn z value)))
-worn_at g c n k (stage.Releasing (Some given)) t found events needs prefix some =
+    → (z : Size) × (value : ℕ) × (s ≡ stage.Releasing (answer.Worn z value))
+worn_at g c n k (stage.Releasing given) t found events needs prefix some =
     let worn = worn_to_come g c n k t given found needs (decided_fits g c n t given events prefix) some in
-    (worn.0, worn.1, ap (λ (a : Answer). stage.Releasing (Some a)) worn.2)
+    (worn.0, worn.1, ap stage.Releasing worn.2)
+worn_at g c n k (stage.Merging f kept) t found events needs prefix some =
+    let worn = worn_to_come g c n k t (answer.Done kept) found needs tt some in
+    absurd (let other : answer.Done kept ≡ answer.Worn worn.0 worn.1 = worn.2 in cc)
 worn_at g c n k (stage.Changing ch kept) t found events needs prefix some = absurd (none_pass (refused_by c k found) (entries_before g c n t ch) (before_quiet g c n k t ch found) some)
 worn_at g c n k (stage.Raising ch z kept) t found events needs prefix some =
     absurd

@@ -114,7 +114,7 @@ worn_fits : (t : Task) (o : Option Size) (f : Size → ℕ) (a : Answer) → opt
 worn_fits t None f a worn = absurd cc
 worn_fits t (Some z) f a worn = subst (FitsAnswer t) (let is : answer.Worn z (f z) ≡ a = cc in is) tt
 
-pub decided_fits : (g : GeometryData) (c k : ℕ) (t : Task) (given : Answer) (events : List CallEvent) → Decides g c k t (Some given) events → FitsAnswer t given
+pub decided_fits : (g : GeometryData) (c k : ℕ) (t : Task) (given : Answer) (events : List CallEvent) → Decides g c k t given events → FitsAnswer t given
 decided_fits g c k t given events decided =
     elim decided [
       | inl refused ↦ refused_fits t (word_gpi refused.word (granule_place g (address_of t))) given refused.refused
@@ -161,12 +161,15 @@ no_task_prefix : (g : GeometryData) (c k : ℕ) (s : Stage) → entries_at g c k
 no_task_prefix g c k stage.Locking = refl
 no_task_prefix g c k s = refl
 
-pub prefix_fits : (g : GeometryData) (c k : ℕ) (s : Stage) (o : Option Task) (events : List CallEvent) → IsStage s o → IsPrefix g c k s o events → IsPrefixFit g c k o (entries_at g c k s o)
+pub prefix_fits : (g : GeometryData) (c k : ℕ) (s : Stage) (o : Option Task) (events : List CallEvent) → IsStage g s o → IsPrefix g c k s o events → IsPrefixFit g c k o (entries_at g c k s o)
 prefix_fits g c k (stage.Changing ch kept) (Some t) events fits front = changing_fits g c k t ch
 prefix_fits g c k (stage.Raising ch size.Two kept) (Some t) events fits front = raising_fits g c k t ch fits.0
 prefix_fits g c k (stage.Raising ch size.ThirtyTwo kept) (Some t) events fits front = raising_fits g c k t ch fits.0
 prefix_fits g c k (stage.Raising ch size.FiveTwelve kept) (Some t) events fits front = raising_fits g c k t ch fits.0
-prefix_fits g c k (stage.Releasing (Some given)) (Some t) events fits front =
+prefix_fits g c k (stage.Merging f kept) (Some t) events fits front =
+    let es : List Entry = call_entries (granule_bytes g.setup) c k t (answer.Done kept) in
+    (answer.Done kept, length es, sym (take_all (length es) es (omega arith)), tt)
+prefix_fits g c k (stage.Releasing given) (Some t) events fits front =
     let es : List Entry = call_entries (granule_bytes g.setup) c k t given in
     (given, length es, sym (take_all (length es) es (omega arith)), decided_fits g c k t given events front)
 prefix_fits g c k s (Some t) events fits front = (answer.Inval, 0, refl, tt)

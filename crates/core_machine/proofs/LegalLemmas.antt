@@ -82,7 +82,7 @@ answered_each Q g c k (t ∷ tasks) (a ∷ answers) events are each =
     (λ j u b e asks given own. each (suc j) u b e asks given (subst (λ (n : ℕ). IsOwnEntry g c n u b e) (let there : k + 1 + j ≡ k + suc j = omega arith in there) own)))
 
 prefix_known : (g : GeometryData) (tasks : List (List Task)) (answers : List (List Answer)) (c k : ℕ) (s : Stage) (o : Option Task) (events : List CallEvent)
-    → IsStage s o → HasActs g o → IsPrefix g c k s o events → task_at tasks c k ≡ o → answer_at answers c k ≡ None → All (IsKnown g tasks answers) (entries_at g c k s o)
+    → IsStage g s o → HasActs g o → IsPrefix g c k s o events → task_at tasks c k ≡ o → answer_at answers c k ≡ None → All (IsKnown g tasks answers) (entries_at g c k s o)
 prefix_known g tasks answers c k s None events fits acts front asks given =
     subst (All (IsKnown g tasks answers)) (sym (prefix_fits g c k s None events fits front)) (All-nil (IsKnown g tasks answers))
 prefix_known g tasks answers c k s (Some t) events fits acts front asks given =

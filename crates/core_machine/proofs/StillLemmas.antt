@@ -56,7 +56,7 @@ waits_so a t stage.Locking old waited =
       | inl held ↦ record { locking = refl; held = held; after = rw held refl }
       | inr free ↦ absurd (let never = rw free at waited in cc)
     ]
-waits_so a t (stage.Releasing (Some answer)) old waited = absurd cc
+waits_so a t (stage.Releasing answer) old waited = absurd cc
 waits_so a t s old waited = absurd cc
 
 waiting_is : (a : AgentData) → a.waited ≡ true → waits_at a ≡ a
