@@ -67,7 +67,7 @@ waits_is_agent : (a : AgentData) → IsAgent a → IsAgent (waits_at a)
 waits_is_agent a is = record { geometry = is.geometry; no_looks = is.no_looks; answered = is.answered; acts = is.acts; stage = is.stage }
 
 pub locking_fits : (g : GeometryData) (o : Option Task) → IsStage g stage.Locking o
-locking_fits g None = tt
+locking_fits g None = refl
 locking_fits g (Some t) = tt
 
 answer_is_agent : (a : AgentData) (t : Task) (answer : Answer) → IsAgent a → task_of a ≡ Some t → IsAgent (after_answer a answer)
@@ -252,3 +252,7 @@ took_is_agent a old is = took_some_is_agent a (task_of a) old is refl
 -- the agent after an act of the task under way
 pub took_by_task : (a : AgentData) (t : Task) (old : ℕ) → task_of a ≡ Some t → took_of a old ≡ took_at a t a.stage old
 took_by_task a t old under_way = ap (λ (o : Option Task). took_under_way a o old) under_way
+
+-- an agent without a task under way takes no part in anything
+pub idle_stage : (a : AgentData) → IsAgent a → task_of a ≡ None → a.stage ≡ stage.Locking
+idle_stage a is none = subst (IsStage a.geometry a.stage) none is.stage

@@ -244,7 +244,9 @@ pub record IsMergingOf (g : GeometryData) (pa : ℕ) (f : FuseData) : Type 0 whe
   pub max : f.max ≡ g.setup.max
   pub some : IsSome (fuse.next_of f)
 
+-- an agent without a call left is where it began
 abbrev pub IsStage : GeometryData → Stage → Option Task → Type 0
+IsStage g s None = s ≡ stage.Locking
 IsStage g (stage.Splitting z d k) (Some t) =
     IsSplittingOf g (address_of t) z d × IsChangeOf t (first_change t) × HasRoomFor (raises_from (first_change t)) k
 IsStage g (stage.Changing c k) (Some t) = IsChangeOf t c × HasRoomFor (raises_from c) k.generations
@@ -254,7 +256,7 @@ IsStage g (stage.Raising c size.ThirtyTwo k) (Some t) =
 IsStage g (stage.Raising c size.FiveTwelve k) (Some t) =
     IsChangeOf t c × HasRoom k.generations (raises_after c) (raises_after c) (raises_from c)
 IsStage g (stage.Merging f k) (Some t) = IsMergingOf g (address_of t) f
-IsStage g s o = Unit {0}
+IsStage g s (Some t) = Unit {0}
 
 pub record IsAgent (a : AgentData) : Type 0 where
   pub geometry : IsGeometry a.geometry
