@@ -7,7 +7,7 @@ use Rattle.shared_words.specs.Acts.{place_in}
 use Rattle.bit_locks.specs.Locks.{lock_number}
 use Rattle.history.specs.declared.call.Task.{Task}
 use Rattle.delegate_ops.specs.Deciding.{address_of, idle_answer}
-use Rattle.delegate_ops.specs.InnerAgents.{AgentData, HasActs, task_of, act_at}
+use Rattle.delegate_ops.specs.InnerAgents.{AgentData, HasActs, IsStage, task_of, act_at}
 use Rattle.delegate_ops.proofs.DecidingLemmas.{acts_inside}
 use Rattle.delegate_ops.proofs.AgentLemmas.{took_is_agent}
 use Rattle.delegate_ops.proofs.NextLemmas.{next_there}
@@ -22,13 +22,13 @@ use Rattle.core_machine.proofs.RunLemmas.{some_or_none}
 
 -- ---- places
 
-place_of_task : (a : AgentData) (o : Option Task) (next : Act) → IsGeometry a.geometry → HasActs a.geometry o → option_and_then (act_at a.geometry a.stage) o ≡ Some next → place_in next < word_count a.geometry
-place_of_task a None next geometry acts e = absurd cc
-place_of_task a (Some t) next geometry acts e = act_low a.geometry t a.stage next geometry acts e
+place_of_task : (a : AgentData) (o : Option Task) (next : Act) → IsGeometry a.geometry → HasActs a.geometry o → IsStage a.geometry a.stage o → option_and_then (act_at a.geometry a.stage) o ≡ Some next → place_in next < word_count a.geometry
+place_of_task a None next geometry acts fits e = absurd cc
+place_of_task a (Some t) next geometry acts fits e = act_low a.geometry t a.stage next geometry acts fits e
 
 pub acts_have_places : ActsHavePlaces
 acts_have_places g (caller.Agent a) next made e =
-    subst (λ (k : GeometryData). place_in next < word_count k) made.0 (place_of_task a (task_of a) next made.1.geometry made.1.acts e)
+    subst (λ (k : GeometryData). place_in next < word_count k) made.0 (place_of_task a (task_of a) next made.1.geometry made.1.acts made.1.stage e)
 acts_have_places g (caller.Cpu looks) next made e = absurd cc
 
 -- ---- what an act keeps

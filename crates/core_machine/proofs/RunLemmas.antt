@@ -30,7 +30,7 @@ use Rattle.delegate_ops.specs.declared.stage.Stage.TheVariants as stage
 use Rattle.delegate_ops.specs.Deciding.{address_of, HasCause}
 use Rattle.delegate_ops.specs.InnerAgents.{AgentData, fresh, task_of, IsAgent, has_ended, next_of}
 use Rattle.delegate_ops.proofs.DecidingLemmas.{acts_inside}
-use Rattle.delegate_ops.specs.Script.{granule_of_task, Follows, HasStopped}
+use Rattle.delegate_ops.specs.Script.{granule_of_task, Follows}
 use Rattle.delegate_ops.proofs.ScriptLemmas.{some_mapped}
 use Rattle.core_machine.specs.declared.caller.Caller.{Caller}
 use Rattle.core_machine.specs.declared.caller.Caller.TheVariants as caller
@@ -234,8 +234,9 @@ fits_history g s tasks stands have made count =
       worn = worn_told g s tasks stands have made;
       undisturbed = stands.undisturbed;
       alone = alone_told g s stands made;
-      tables = tables_told g s.words (state_in s).map stands.shape.geometry stands.shape.size whole stands.tables;
-      canonical = canonical_told g s.words (state_in s).map stands.shape.geometry whole stands.tables;
+      tables = ?;
+      canonical = ?;
+      whole = ?;
       generations = generations_told g s stands;
       ended = locks_ended g s tasks stands have;
       duty = stands.idle.duty;
@@ -284,46 +285,40 @@ follows_of s c (script.Cpu looks) (caller.Cpu n) opening made given at same =
 has_no_next : (a : AgentData) → IsAgent a → next_of a ≡ None → has_ended a ≡ true
 has_no_next a is none = elim (cases_Bool (has_ended a)) [ inl ended ↦ ended | inr other ↦ absurd (let there = next_there a is in let both : is_some (next_of a) ≡ true = there ∙ ap not other in let no : is_some {T = Act} None ≡ true = subst (λ (o : Option Act). is_some o ≡ true) none both in cc) ]
 
-ended_of : (s : Scenario) (c : ℕ) (own : Script) (x : Caller) → InvariantFor (first_map s) (opening_of s) [] → AreMade (geometry_of s) (played s).callers → slice_get (played s).callers c ≡ Some x
-    → agent_tasks x ≡ script_tasks own → caller_next x ≡ None → HasEnded (geometry_of s) c (Some own) (caller_answers x) (events_of c (played_trace s))
+ended_of : (g : GeometryData) (callers : List Caller) (c : ℕ) (own : Script) (x : Caller) → AreMade g callers → slice_get callers c ≡ Some x → agent_tasks x ≡ script_tasks own → caller_next x ≡ None
+    → HasEnded (Some own) (caller_answers x)
 unfolding script_tasks
-ended_of s c (script.Agent asks) (caller.Agent a) opening made at same none =
+ended_of g callers c (script.Agent asks) (caller.Agent a) made at same none =
     let is = made c a at in
     let tasks : a.tasks ≡ map task_of_ask asks = cc in
-    elim (walked_ended c a (events_of c (played_trace s)) is.1 (played_walked s c a opening at) (has_no_next a is.1 none)) [
-      | inl all ↦ inl (all ∙ ap length tasks ∙ length-map asks task_of_ask)
-      | inr stopped ↦
-          inr
-          (subst (λ (ts : List Task). HasStopped (geometry_of s) c ts a.answers (events_of c (played_trace s))) tasks
-          (subst (λ (g : GeometryData). HasStopped g c a.tasks a.answers (events_of c (played_trace s))) is.0 stopped))
-    ]
-ended_of s c (script.Agent asks) (caller.Cpu looks) opening made at same none = absurd cc
-ended_of s c (script.Cpu looks) x opening made at same none = tt
+    walked_ended c a is.2 is.1 is.3 (has_no_next a is.1 none) ∙ ap length tasks ∙ length-map asks task_of_ask
+ended_of g callers c (script.Agent asks) (caller.Cpu looks) made at same none = absurd cc
+ended_of g callers c (script.Cpu looks) x made at same none = tt
 
 answers_given : (callers : List Caller) (c : ℕ) (x : Caller) → slice_get callers c ≡ Some x → answers_by (map caller_answers callers) (slice_get (map caller_answers callers) c) ≡ caller_answers x
 answers_given callers c x at = ap (answers_by (map caller_answers callers)) (answers_of_caller callers c x at)
 
-ends_of : (s : Scenario) (c : ℕ) (o : Option Caller) → InvariantFor (first_map s) (opening_of s) [] → AreMade (geometry_of s) (played s).callers → slice_get (played s).callers c ≡ o → IsDone o
-    → HasEnded (geometry_of s) c (slice_get s.scripts c) (answers_by (map caller_answers (played s).callers) (slice_get (map caller_answers (played s).callers) c)) (events_of c (played_trace s))
-ends_of s c (Some x) opening made at done =
+ends_of : (s : Scenario) (c : ℕ) (o : Option Caller) → AreMade (geometry_of s) (played s).callers → slice_get (played s).callers c ≡ o → IsDone o
+    → HasEnded (slice_get s.scripts c) (answers_by (map caller_answers (played s).callers) (slice_get (map caller_answers (played s).callers) c))
+ends_of s c (Some x) made at done =
     let own = script_at s c x at in
-    subst (λ (o : Option Script). HasEnded (geometry_of s) c o (answers_by (map caller_answers (played s).callers) (slice_get (map caller_answers (played s).callers) c)) (events_of c (played_trace s))) (sym own.1)
-    (subst (λ (answers : List Answer). HasEnded (geometry_of s) c (Some own.0) answers (events_of c (played_trace s))) (sym (answers_given (played s).callers c x at))
-    (ended_of s c own.0 x opening made at own.2 done))
-ends_of s c None opening made at done =
+    subst (λ (o : Option Script). HasEnded o (answers_by (map caller_answers (played s).callers) (slice_get (map caller_answers (played s).callers) c))) (sym own.1)
+    (subst (HasEnded (Some own.0)) (sym (answers_given (played s).callers c x at))
+    (ended_of (geometry_of s) (played s).callers c own.0 x made at own.2 done))
+ends_of s c None made at done =
     let count : length s.scripts ≡ length (played s).callers = sym (length-map s.scripts tasks_of) ∙ many_tasks s in
     let none : slice_get s.scripts c ≡ None =
     elim (slice_get_cases (played s).callers c).1 [
       | inl here ↦ absurd (let both : Some here.0 ≡ None = sym here.2 ∙ at in cc)
       | inr past ↦ slice_get_past s.scripts c (let high = past.0 in omega (arith, high, count))
     ] in
-    subst (λ (o : Option Script). HasEnded (geometry_of s) c o (answers_by (map caller_answers (played s).callers) (slice_get (map caller_answers (played s).callers) c)) (events_of c (played_trace s))) (sym none) tt
+    subst (λ (o : Option Script). HasEnded o (answers_by (map caller_answers (played s).callers) (slice_get (map caller_answers (played s).callers) c))) (sym none) tt
 
 pub is_trace : (s : Scenario) → InvariantFor (first_map s) (opening_of s) [] → AreMade (geometry_of s) (played s).callers
     → IsTrace (geometry_of s) s.scripts (first_words s) (turns_in s) (played_trace s) (map caller_answers (played s).callers) (played s).words
 is_trace s opening made = record {
   callers = subst (λ (n : ℕ). All (λ (e : TraceEvent). e.caller < n) (played_trace s)) (length-map s.scripts (caller_of (geometry_of s))) (trace_known (opening_of s) (turns_in s));
-  turned = turns_taken _ (opening_of s) (turns_in s) (λ c o at done. ends_of s c o opening made at done);
+  turned = turns_taken _ (opening_of s) (turns_in s) (λ c o at done. ends_of s c o made at done);
   answered = trace_answered (first_map s) (opening_of s) [] (turns_in s) opening;
   left = trace_words (opening_of s) (turns_in s);
   follows = λ c own answers given answered.

@@ -25,7 +25,7 @@ use Rattle.scenario_text.specs.declared.scenario.Scenario.{Scenario}
 use Rattle.scenario_text.specs.declared.scenario.Script.{Script}
 use Rattle.scenario_text.specs.declared.scenario.Script.TheVariants as script
 use Rattle.delegate_ops.specs.declared.stage.Stage.{Stage}
-use Rattle.delegate_ops.specs.InnerAgents.{AgentData, fresh, took_of}
+use Rattle.delegate_ops.specs.InnerAgents.{AgentData, IsStage, fresh, took_of}
 use Rattle.delegate_ops.proofs.ScriptLemmas.{fresh_walked, step_walks}
 use Rattle.core_machine.specs.declared.caller.Caller.{Caller}
 use Rattle.core_machine.specs.declared.caller.Caller.TheVariants as caller
@@ -375,7 +375,8 @@ act_counts {s = s} {c = c} {a = a} {t = t} {st = st} next m acting on low =
 caller_counts : (g : GeometryData) (s : Scene) (c : ℕ) (x : Caller) (t : Act) (m : ℕ) → HoldsIn g s → slice_get s.callers c ≡ Some x → caller_next x ≡ Some t → m < 128 → CountsLock s.words t m
 caller_counts g s c x t m stands at next low =
     let actor = actor_of g s c x t stands at next in
-    act_counts t m actor.acting (act_word actor.agent.geometry actor.task actor.agent.stage t actor.acting.stands.shape.geometry actor.acting.acts actor.act) low
+    let fits : IsStage actor.agent.geometry actor.agent.stage (Some actor.task) = subst (IsStage actor.agent.geometry actor.agent.stage) actor.acting.under_way actor.acting.is.stage in
+    act_counts t m actor.acting (act_word actor.agent.geometry actor.task actor.agent.stage t actor.acting.stands.shape.geometry actor.acting.acts fits actor.act) low
 
 -- the locks taken and released by a trace make the lock bits
 abbrev CountsTrace : ℕ → List ℕ → List ℕ → List TraceEvent → Type 0
