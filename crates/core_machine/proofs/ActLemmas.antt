@@ -27,7 +27,7 @@ use Rattle.delegate_ops.proofs.DecidingLemmas.{acts_inside, acts_usable}
 use Rattle.delegate_ops.proofs.AgentLemmas.{at_stage}
 use Rattle.core_machine.specs.declared.caller.Caller.{Caller}
 use Rattle.core_machine.specs.declared.caller.Caller.TheVariants as caller
-use Rattle.core_machine.specs.InnerTables.{MeansMap}
+use Rattle.core_machine.specs.InnerTables.{AreTables}
 use Rattle.core_machine.specs.InnerLocks.{is_inside, holds}
 use Rattle.core_machine.specs.InnerOpened.{open_at, open_by, pairs_of, OpenAreHeld}
 use Rattle.core_machine.specs.InnerSeen.{Sees, SeesGeneration, SeesAt}
@@ -35,13 +35,13 @@ use Rattle.core_machine.specs.InnerRaised.{is_due_at, is_around, is_due}
 use Rattle.core_machine.specs.InnerCounted.{coming_at}
 use Rattle.core_machine.specs.InnerInvariant.{IsMade}
 use Rattle.core_machine.specs.InnerScene.{Scene, state_in, HoldsIn, scene_after}
-use Rattle.core_machine.proofs.ListLemmas.{one, get_append, get_front}
+use Rattle.core_machine.proofs.ListLemmas.{one, get_append, get_front, get_last}
 use Rattle.core_machine.proofs.TableLemmas.{usable_aligned}
 use Rattle.core_machine.proofs.WordLemmas.{Writes, writes_none, is_lock, is_generation, is_idle, IsOfBlock, locks_left, generations_left}
 use Rattle.core_machine.proofs.OthersLemmas.{Holder, other_number, made_at_place, is_holder, holder_has, others_see, granule_address}
 use Rattle.core_machine.proofs.OpenedLemmas.{opened_stays, others_closed, closed_here}
 use Rattle.core_machine.proofs.RaisedLemmas.{count_seen}
-use Rattle.core_machine.proofs.StepLemmas.{list_of, added_to, IsEntryOf, step_keeps, counted_grown}
+use Rattle.core_machine.proofs.StepLemmas.{list_of, added_to, map_in, map_next, IsEntryOf, step_keeps, counted_grown}
 use Rattle.core_machine.specs.Facts.{IsCounted, generation_word, is_on_block}
 use Rattle.delegate_ops.specs.Script.{granule_of_task}
 
@@ -109,18 +109,18 @@ module _ {s : Scene} {c : ℕ} {a : AgentData} {t : Task} {st : Stage} (acting :
   counts_of inside k y sees = count_seen a.geometry s.words s.callers s.history c (at_stage a st) t k y acting.stands.locks low_of (holder_of inside) mades_of acting.stands.generations sees
 
   -- what it sees
-  pub seen_of : SeesAt a.geometry s.words st (Some t)
-  seen_of = subst (SeesAt a.geometry s.words st) acting.under_way (acting.stands.seen c (caller.Agent (at_stage a st)) acting.at)
+  pub seen_of : SeesAt a.geometry (map_in s) s.words st (Some t)
+  seen_of = subst (SeesAt a.geometry (map_in s) s.words st) acting.under_way (acting.stands.seen c (caller.Agent (at_stage a st)) acting.at)
 
-  -- the others keep what they see, where the word that it writes is of no other holder's block
+  -- the others keep what they see, where the word that it writes is of no other holder's block and the map stays
   pub others_left : {n : Option WordName} {after : List ℕ} (m : ℕ) → Writes a.geometry s.words n after → IsOfBlock a.geometry m n
       → ((d : ℕ) (b : AgentData) (u : Task) → d ≢ c → Holder a.geometry s.callers d b u → lock_number a.geometry.setup (address_of u) ≢ m)
-      → (d : ℕ) (y : Caller) → d ≢ c → slice_get s.callers d ≡ Some y → Sees after y
+      → (d : ℕ) (y : Caller) → d ≢ c → slice_get s.callers d ≡ Some y → Sees (map_in s) after y
   others_left m writes of away d y apart there =
-      others_see s.callers d m y writes of acting.stands.shape.geometry (mades_of d y there) there (λ b u theirs. away d b u apart theirs) (acting.stands.seen d y there)
+      others_see (map_in s) (map_in s) s.callers d m y writes of (mades_of d y there) there (λ b u theirs. (away d b u apart theirs, λ g same. refl)) (acting.stands.seen d y there)
 
   -- or is one that no call keeps: 128 is the number of no lock
-  pub others_stay : {n : Option WordName} {after : List ℕ} → Writes a.geometry s.words n after → IsOfBlock a.geometry 128 n → (d : ℕ) (y : Caller) → d ≢ c → slice_get s.callers d ≡ Some y → Sees after y
+  pub others_stay : {n : Option WordName} {after : List ℕ} → Writes a.geometry s.words n after → IsOfBlock a.geometry 128 n → (d : ℕ) (y : Caller) → d ≢ c → slice_get s.callers d ≡ Some y → Sees (map_in s) after y
   others_stay writes of =
       others_left 128 writes of
       (λ d b u apart theirs same. omega (arith, same, lock_low a.geometry.setup (address_of u) acting.stands.shape.geometry.setup (acts_inside a.geometry u theirs.acts)))
@@ -173,13 +173,13 @@ pub record Goes (s : Scene) (c : ℕ) (a : AgentData) (t : Task) (st next : Stag
   pub stays : is_inside next ≡ true
   pub made : IsMade a.geometry (caller.Agent (goes_to (at_stage a st) next))
   pub writes : Writes a.geometry s.words n after
-  pub block : IsOfBlock a.geometry (lock_of_task a t) n
   pub no_lock : is_lock n ≡ false
   pub idle : is_idle n ≡ false
   pub entry : IfSome o (IsOwn s c a t)
-  pub tables : MeansMap a.geometry after (state_after (state_in s) (list_of o)).map
+  pub tables : AreTables a.geometry after (set s.callers c (caller.Agent (goes_to (at_stage a st) next))) (map_next s o)
+  pub others : (d : ℕ) (y : Caller) → d ≢ c → slice_get s.callers d ≡ Some y → Sees (map_next s o) after y
   pub opened : OpenAreHeld (state_after (state_in s) (list_of o)).opened (set s.callers c (caller.Agent (goes_to (at_stage a st) next)))
-  pub seen : SeesAt a.geometry after next (Some t)
+  pub seen : SeesAt a.geometry (map_next s o) after next (Some t)
   pub raised : (y : Size) (region : ℕ) → region < blocks_in_region y * a.geometry.setup.gigabytes
       → generation_word a.geometry after y region + one (is_due_at next y && is_around a.geometry y region (Some t))
       ≡ generation_word a.geometry s.words y region + one (is_due_at st y && is_around a.geometry y region (Some t)) + added_to a.geometry y region o
@@ -218,7 +218,8 @@ one_item (x ∷ []) (suc i) given few there = absurd cc
 one_item (x ∷ y ∷ xs) i given few there = absurd (omega (arith, few))
 
 coming_few : (st : Stage) → length (coming_at st) < 2
-coming_few (stage.Releasing (Some given)) = omega arith
+coming_few (stage.Merging f k) = omega arith
+coming_few (stage.Releasing given) = omega arith
 coming_few st = omega arith
 
 -- the answer of a call that goes on to this stage: an earlier one, or the one that is to come
@@ -229,6 +230,11 @@ known_parts answers st k given there =
       | inl front ↦ inl front
       | inr back ↦ (let one = one_item (coming_at st) back.0 given (coming_few st) back.2 in inr (let same : k ≡ length answers = omega (arith, back.1, one.0) in same, one.1))
     ]
+
+-- an answer that is to come is counted
+counted_coming : {s : Scene} {c : ℕ} {a : AgentData} {t : Task} {st : Stage} (acting : Acting s c a t st) (given : Answer) → coming_at st ≡ given ∷ [] → IsCounted a.geometry c (length a.answers) t given s.history
+counted_coming {c = c} {a = a} {t = t} {st = st} acting given coming =
+    acting.stands.counted c (length a.answers) (caller.Agent (at_stage a st)) t given acting.at acting.under_way (get_last a.answers (coming_at st) given coming)
 
 pub goes_keeps : {s : Scene} {c : ℕ} {a : AgentData} {t : Task} {st : Stage} (acting : Acting s c a t st) (next : Stage) (n : Option WordName) (after : List ℕ) (o : Option Entry) → Goes s c a t st next n after o
     → HoldsIn a.geometry (scene_after s c (caller.Agent (goes_to (at_stage a st) next)) after (list_of o))
@@ -247,7 +253,7 @@ goes_keeps {s = s} {c = c} {a = a} {t = t} {st = st} acting next n after o goes 
       opened = goes.opened;
       locks = λ m low. rw (locks_left goes.writes goes.no_lock m low, goes.inside, goes.stays) refl;
       seen = rw acting.under_way goes.seen;
-      others = others_left acting (lock_of_task a t) goes.writes goes.block (other_lock acting goes.inside);
+      others = goes.others;
       raised = λ y region within. rw acting.under_way (goes.raised y region within);
       alone = λ m has. acting.stands.alone c m me acting.at (rw goes.inside (rw goes.stays at has));
       counted = λ k u given asked answered.
@@ -268,39 +274,41 @@ goes_keeps {s = s} {c = c} {a = a} {t = t} {st = st} acting next n after o goes 
 
 -- ---- an act that makes no entry
 
--- the next stage holds open, owes and has made what this one does, and no answer is to come
+-- the next stage holds open, owes and has made what this one does
 pub record IsAlike (g : GeometryData) (c k : ℕ) (t : Task) (st next : Stage) : Type 0 where
   pub inside : is_inside st ≡ true
   pub stays : is_inside next ≡ true
   pub opened : open_at g next (Some t) ≡ open_at g st (Some t)
   pub due : (y : Size) → is_due_at next y ≡ is_due_at st y
-  pub coming : coming_at next ≡ []
   pub front : entries_at g c k next (Some t) ≡ entries_at g c k st (Some t)
 
--- it writes no lock and no generation
+-- it writes no lock and no generation, and leaves the map
 pub goes_quietly : {s : Scene} {c : ℕ} {a : AgentData} {t : Task} {st : Stage} (acting : Acting s c a t st) (next : Stage) (n : Option WordName) (after : List ℕ) → IsAlike a.geometry c (length a.answers) t st next
     → IsMade a.geometry (caller.Agent (goes_to (at_stage a st) next)) → Writes a.geometry s.words n after → IsOfBlock a.geometry (lock_of_task a t) n → is_lock n ≡ false → is_idle n ≡ false → is_generation n ≡ false
-    → MeansMap a.geometry after (state_in s).map → SeesAt a.geometry after next (Some t) → HoldsIn a.geometry (scene_after s c (caller.Agent (goes_to (at_stage a st) next)) after [])
-goes_quietly {st = st} acting next n after alike made writes block no_lock idle no_generation tables sees =
+    → AreTables a.geometry after (set s.callers c (caller.Agent (goes_to (at_stage a st) next))) (map_in s) → SeesAt a.geometry (map_in s) after next (Some t)
+    → ((given : Answer) → coming_at next ≡ given ∷ [] → coming_at st ≡ given ∷ []) → HoldsIn a.geometry (scene_after s c (caller.Agent (goes_to (at_stage a st) next)) after [])
+goes_quietly {s = s} {c = c} {a = a} {t = t} {st = st} acting next n after alike made writes block no_lock idle no_generation tables sees coming =
     goes_keeps acting next n after None
     (record {
       inside = alike.inside;
       stays = alike.stays;
       made = made;
       writes = writes;
-      block = block;
       no_lock = no_lock;
       idle = idle;
       entry = tt;
       tables = tables;
+      others = others_left acting (lock_of_task a t) writes block (other_lock acting alike.inside);
       opened = opened_same acting next alike.opened;
       seen = sees;
       raised = raised_same acting next writes no_generation alike.due;
-      coming = λ given is. absurd (let both : [] ≡ given ∷ [] = sym alike.coming ∙ is in cc);
+      coming = λ given is. subst (IsCounted a.geometry c (length a.answers) t given) (sym (append-nil s.history)) (counted_coming acting given (coming given is));
       front = alike.front ∙ sym (append-nil _);
     })
 
--- it writes nothing
+-- it writes nothing, and no answer is to come
 pub load_quietly : {s : Scene} {c : ℕ} {a : AgentData} {t : Task} {st : Stage} (acting : Acting s c a t st) (next : Stage) → IsAlike a.geometry c (length a.answers) t st next
-    → IsMade a.geometry (caller.Agent (goes_to (at_stage a st) next)) → SeesAt a.geometry s.words next (Some t) → HoldsIn a.geometry (scene_after s c (caller.Agent (goes_to (at_stage a st) next)) s.words [])
-load_quietly {s = s} {a = a} acting next alike made sees = goes_quietly acting next None s.words alike made (writes_none a.geometry s.words) tt refl refl refl acting.stands.tables sees
+    → IsMade a.geometry (caller.Agent (goes_to (at_stage a st) next)) → AreTables a.geometry s.words (set s.callers c (caller.Agent (goes_to (at_stage a st) next))) (map_in s) → SeesAt a.geometry (map_in s) s.words next (Some t) → coming_at next ≡ []
+    → HoldsIn a.geometry (scene_after s c (caller.Agent (goes_to (at_stage a st) next)) s.words [])
+load_quietly {s = s} {a = a} acting next alike made tables sees none =
+    goes_quietly acting next None s.words alike made (writes_none a.geometry s.words) tt refl refl refl tables sees (λ given is. absurd (let both : [] ≡ given ∷ [] = sym none ∙ is in cc))

@@ -11,6 +11,7 @@ pub mod AloneLemmas
 pub mod CountedLemmas
 pub mod StepLemmas
 pub mod ActLemmas
+pub mod HolderLemmas
 pub mod LockActs
 pub mod LoadActs
 pub mod ChangeActs

@@ -67,3 +67,7 @@ count_set {X = X} p xs c old new at =
 
 pub all_one : {X : Type 0} (P : X → Type 0) (x : X) → P x → All P (x ∷ [])
 all_one P x here = All-cons P x [] here (All-nil P)
+
+pub get_last : {X : Type 0} (xs ys : List X) (v : X) → ys ≡ v ∷ [] → slice_get (xs ++ ys) (length xs) ≡ Some v
+get_last [] ys v is = rw is refl
+get_last (x ∷ xs) ys v is = get_last xs ys v is

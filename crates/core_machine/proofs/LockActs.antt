@@ -5,6 +5,7 @@ use Rattle.std.specs.Int.{bit_not, w64}
 use Rattle.std.specs.Int.Bits.{bit_and, bit_or}
 use Rattle.std.specs.List.{list_any}
 use Rattle.std.proofs.lemmas.Bool.{cases_Bool, eqb-true, eq-eqb}
+use Rattle.gpi_values.specs.declared.gpi.Gpi.{Gpi}
 use Rattle.gpt_descriptors.specs.declared.size.Size.{Size}
 use Rattle.gpt_descriptors.specs.Sizes.{granule_bytes}
 use Rattle.gpt_descriptors.specs.Places.{GeometryData, Lock}
@@ -27,6 +28,10 @@ use Rattle.core_machine.specs.declared.caller.Caller.{Caller}
 use Rattle.core_machine.specs.declared.caller.Caller.TheVariants as caller
 use Rattle.core_machine.specs.InnerCallers.{own_of, call_of}
 use Rattle.core_machine.specs.InnerLocks.{holds}
+use Rattle.table_meaning.specs.Equation.{Whole}
+use Rattle.table_meaning.specs.Facts.{step_of}
+use Rattle.core_machine.specs.InnerTables.{known_at, holder_by}
+use Rattle.core_machine.proofs.HolderLemmas.{tables_whole}
 use Rattle.core_machine.specs.InnerSeen.{Sees}
 use Rattle.core_machine.specs.InnerOpened.{open_by}
 use Rattle.core_machine.specs.InnerRaised.{is_due}
@@ -36,7 +41,7 @@ use Rattle.core_machine.specs.InnerInvariant.{IsMade}
 use Rattle.core_machine.specs.InnerScene.{Scene, state_in, HoldsIn, scene_after}
 use Rattle.core_machine.proofs.ListLemmas.{one, get_append}
 use Rattle.core_machine.proofs.LockLemmas.{holder_bit, take_free, take_held, release_held}
-use Rattle.core_machine.proofs.WordLemmas.{writes_one, tables_left, generations_left}
+use Rattle.core_machine.proofs.WordLemmas.{writes_one, generations_left}
 use Rattle.core_machine.proofs.OpenedLemmas.{opened_stays}
 use Rattle.core_machine.proofs.StepLemmas.{step_keeps}
 use Rattle.core_machine.proofs.ToldLemmas.{answered_call}
@@ -54,12 +59,13 @@ ActKeeps s c a t st next =
 
 -- a write of its lock word by a caller that goes on with nothing open and nothing due
 lock_keeps : {s : Scene} {c : ℕ} {a : AgentData} {t : Task} {st : Stage} (acting : Acting s c a t st) (v : ℕ) (x : Caller) → IsMade a.geometry x → open_by x ≡ open_by (caller.Agent (at_stage a st))
-    → ((y : Size) (region : ℕ) → is_due y region x ≡ is_due y region (caller.Agent (at_stage a st))) → ((after : List ℕ) → Sees after x)
+    → ((y : Size) (region : ℕ) → is_due y region x ≡ is_due y region (caller.Agent (at_stage a st))) → ((m : ℕ → Gpi) (after : List ℕ) → Sees m after x)
+    → step_of (known_at st) ≡ Whole → (holder_by x).step ≡ Whole
     → ((m : ℕ) → m < 128 → lock_bit (set s.words (lock_of_task a t / 64) v) m + one (holds m (caller.Agent (at_stage a st))) ≡ lock_bit s.words m + one (holds m x))
     → ((m : ℕ) → holds m x ≡ true → IsAlone a.geometry.setup m c (call_of x) s.history)
     → ((k : ℕ) (u : Task) (given : Answer) → slice_get (caller_tasks x) k ≡ Some u → slice_get (known_answers x) k ≡ Some given → IsCounted a.geometry c k u given s.history)
     → own_of c x ≡ own_of c (caller.Agent (at_stage a st)) → HoldsIn a.geometry (scene_after s c x (set s.words (lock_of_task a t / 64) v) [])
-lock_keeps {s = s} {c = c} {a = a} {t = t} {st = st} acting v x made opened due sees locks alone counted own =
+lock_keeps {s = s} {c = c} {a = a} {t = t} {st = st} acting v x made opened due sees before whole locks alone counted own =
     let me = caller.Agent (at_stage a st) in
     let row : lock_of_task a t / 64 < 2 = omega (arith, low_of acting) in
     let writes = writes_one a.geometry s.words (Lock (lock_of_task a t / 64)) v row in
@@ -69,10 +75,10 @@ lock_keeps {s = s} {c = c} {a = a} {t = t} {st = st} acting v x made opened due 
       made = made;
       writes = writes;
       entry = tt;
-      tables = tables_left writes (state_in s).map refl acting.stands.shape.geometry acting.stands.tables;
+      tables = tables_whole acting x before whole writes refl;
       opened = opened_stays (state_in s).opened (state_in s).opened s.callers c me x acting.at acting.stands.opened refl opened;
       locks = locks;
-      seen = sees _;
+      seen = sees _ _;
       others = others_stay acting writes tt;
       raised = λ y region within. rw (generations_left writes refl y region within, due y region) (omega arith);
       alone = alone;
@@ -103,13 +109,13 @@ take_keeps {s = s} {c = c} {a = a} {t = t} acting =
       elim (cases_Bool (eqb (bit_and word (2 ^ (n % 64))) 0)) [
         | inl free ↦
             rw free
-            (lock_keeps acting (bit_or word (2 ^ (n % 64))) (caller.Agent (goes_to me stage.Looking)) (rw free at made) refl (λ y region. refl) (λ after. tt)
+            (lock_keeps acting (bit_or word (2 ^ (n % 64))) (caller.Agent (goes_to me stage.Looking)) (rw free at made) refl (λ y region. refl) (λ m after. tt) refl refl
             (λ m below. rw acting.under_way (take_free s.words n m within (eqb-true _ _ free)))
             (λ m has. alone_starts a.geometry.setup m c (length a.answers) s.history (none_yet acting))
             (λ k u given asked answered. counted k (caller.Agent me) u given acting.at asked answered) refl)
         | inr held ↦
             rw held
-            (lock_keeps acting (bit_or word (2 ^ (n % 64))) (caller.Agent (waits_at me)) (rw held at made) refl (λ y region. refl) (λ after. tt)
+            (lock_keeps acting (bit_or word (2 ^ (n % 64))) (caller.Agent (waits_at me)) (rw held at made) refl (λ y region. refl) (λ m after. tt) refl refl
             (λ m below. ap (λ (bit : ℕ). bit + 0) (take_held s.words n m within (λ free. absurd (let both = eq-eqb _ _ free in cc)))) (λ m has. absurd cc)
             (λ k u given asked answered. counted k (caller.Agent me) u given acting.at asked answered) refl)
       ],
@@ -147,38 +153,24 @@ idle_counted g c k i [] u given h there = absurd cc
 idle_counted g c k i (t ∷ tasks) u given h there =
     idle_head g c k i t (idle_answer g t) (idle_answers g tasks) u given h refl (λ j later. idle_counted g c k j tasks u given h later) there
 
--- a release that goes on to a caller that holds nothing
-released : {s : Scene} {c : ℕ} {a : AgentData} {t : Task} {o : Option Answer} (acting : Acting s c a t (stage.Releasing o)) (x : Caller) → IsMade a.geometry x → ((n : ℕ) → holds n x ≡ false) → open_by x ≡ []
-    → ((y : Size) (region : ℕ) → is_due y region x ≡ false) → ((after : List ℕ) → Sees after x)
-    → ((k : ℕ) (u : Task) (given : Answer) → slice_get (caller_tasks x) k ≡ Some u → slice_get (known_answers x) k ≡ Some given → IsCounted a.geometry c k u given s.history)
-    → own_of c x ≡ own_of c (caller.Agent (at_stage a (stage.Releasing o))) → HoldsIn a.geometry (scene_after s c x (after_act (release_act (lock_bit_of a.geometry t)) s.words) [])
-released {s = s} {c = c} {a = a} {t = t} {o = o} acting x made holds_none open_none due_none sees counted own =
+-- the lock is released, and the call is answered
+pub release_keeps : {s : Scene} {c : ℕ} {a : AgentData} {t : Task} (given : Answer) → Acting s c a t (stage.Releasing given) → ActKeeps s c a t (stage.Releasing given) (release_act (lock_bit_of a.geometry t))
+release_keeps {s = s} {c = c} {a = a} {t = t} given acting =
     let n = lock_of_task a t in
     let within : n / 64 < length s.words = omega (arith, low_of acting, acting.stands.shape.size) in
-    let me = caller.Agent (at_stage a (stage.Releasing o)) in
-    let has : holds n me ≡ true = rw acting.under_way (eq-eqb n n refl) in
-    let set_bit : lock_bit s.words n ≡ 1 = holder_bit s.words s.callers c n me acting.at acting.stands.locks (low_of acting) has in
-    lock_keeps acting (bit_and (slice_index s.words (n / 64)) (bit_not w64 (2 ^ (n % 64)))) x made open_none due_none sees
-    (λ m below. rw (holds_none m, acting.under_way) (release_held s.words n m within set_bit))
-    (λ m has_it. absurd (let both : false ≡ true = sym (holds_none m) ∙ has_it in cc)) counted own
-
-pub release_keeps : {s : Scene} {c : ℕ} {a : AgentData} {t : Task} (o : Option Answer) → Acting s c a t (stage.Releasing o) → ActKeeps s c a t (stage.Releasing o) (release_act (lock_bit_of a.geometry t))
-release_keeps {s = s} {c = c} {a = a} {t = t} None acting =
-    let me = at_stage a (stage.Releasing None) in (
+    let me = at_stage a (stage.Releasing given) in
+    let idle = idle_answers a.geometry (drop (length a.answers + 1) a.tasks) in
+    let has : holds n (caller.Agent me) ≡ true = rw acting.under_way (eq-eqb n n refl) in
+    let set_bit : lock_bit s.words n ≡ 1 = holder_bit s.words s.callers c n (caller.Agent me) acting.at acting.stands.locks (low_of acting) has in (
       tt,
-      released acting (caller.Agent (goes_to me stage.Stopped)) (acting.made 0) (λ n. refl) refl (λ y region. refl) (λ after. tt)
-          (λ k u given asked answered. acting.stands.counted c k (caller.Agent me) u given acting.at asked answered) (rw acting.under_way refl),
-    )
-release_keeps {s = s} {c = c} {a = a} {t = t} (Some answer) acting =
-    let me = at_stage a (stage.Releasing (Some answer)) in
-    let idle = idle_answers a.geometry (drop (length a.answers + 1) a.tasks) in (
-      tt,
-      released acting (caller.Agent (after_answer me answer)) (acting.made 0) (λ n. refl) refl (λ y region. refl) (λ after. tt)
-          (λ k u given asked answered.
-          elim (get_append (a.answers ++ answer ∷ []) idle k given (subst (λ (answers : List Answer). slice_get answers k ≡ Some given) (append-nil ((a.answers ++ answer ∷ []) ++ idle)) answered)) [
-            | inl front ↦ acting.stands.counted c k (caller.Agent me) u given acting.at asked front.1
-            | inr back ↦ idle_counted a.geometry c k back.0 (drop (length a.answers + 1) a.tasks) u given s.history back.2
+      lock_keeps acting (bit_and (slice_index s.words (n / 64)) (bit_not w64 (2 ^ (n % 64)))) (caller.Agent (after_answer me given)) (acting.made 0) refl (λ y region. refl) (λ m after. tt) refl refl
+          (λ m below. rw acting.under_way (release_held s.words n m within set_bit))
+          (λ m has_it. absurd cc)
+          (λ k u found asked answered.
+          elim (get_append (a.answers ++ given ∷ []) idle k found (subst (λ (answers : List Answer). slice_get answers k ≡ Some found) (append-nil ((a.answers ++ given ∷ []) ++ idle)) answered)) [
+            | inl front ↦ acting.stands.counted c k (caller.Agent me) u found acting.at asked front.1
+            | inr back ↦ idle_counted a.geometry c k back.0 (drop (length a.answers + 1) a.tasks) u found s.history back.2
           ])
-          (append-nil (answered_entries (granule_bytes a.geometry.setup) c 0 a.tasks ((a.answers ++ answer ∷ []) ++ idle))
-          ∙ rw acting.under_way (answered_call a.geometry (granule_bytes a.geometry.setup) c a.tasks a.answers t answer acting.under_way)),
+          (append-nil (answered_entries (granule_bytes a.geometry.setup) c 0 a.tasks ((a.answers ++ given ∷ []) ++ idle))
+          ∙ rw acting.under_way (answered_call a.geometry (granule_bytes a.geometry.setup) c a.tasks a.answers t given acting.under_way)),
     )

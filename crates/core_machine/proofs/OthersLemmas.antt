@@ -6,10 +6,12 @@ use Rattle.std.proofs.lemmas.Bool.{cases_eq, eq-eqb}
 use Rattle.std.proofs.lemmas.List.Sums.{sum_by-cons}
 use Rattle.std.proofs.lemmas.Nat.Bits.{bit_at-lt}
 use Rattle.std.proofs.lemmas.Option.{slice_get_within, get_or_from_slice_get}
+use Rattle.gpi_values.specs.declared.gpi.Gpi.{Gpi}
 use Rattle.gpt_descriptors.specs.declared.size.Size.{Size}
 use Rattle.gpt_descriptors.specs.Sizes.{granule_bytes, size_bytes}
-use Rattle.gpt_descriptors.specs.Places.{GeometryData, IsGeometry, WordName}
+use Rattle.gpt_descriptors.specs.Places.{GeometryData, WordName}
 use Rattle.bit_locks.specs.Locks.{lock_number}
+use Rattle.table_meaning.specs.Changing.{AgreesAround}
 use Rattle.history.specs.declared.call.Task.{Task}
 use Rattle.history.specs.Counts.{region_of}
 use Rattle.delegate_ops.specs.Deciding.{address_of, idle_answer}
@@ -23,7 +25,7 @@ use Rattle.core_machine.specs.InnerInvariant.{IsMade, HasShape}
 use Rattle.core_machine.proofs.ListLemmas.{one}
 use Rattle.core_machine.proofs.LockLemmas.{some_pass}
 use Rattle.core_machine.proofs.TableLemmas.{granule_start, usable_aligned}
-use Rattle.core_machine.proofs.WordLemmas.{Writes, IsOfBlock, KeepsWords, words_kept, sees_left, number_by_region}
+use Rattle.core_machine.proofs.WordLemmas.{Writes, IsOfBlock, IsKept, generations_kept, sees_left, number_by_region}
 use Rattle.delegate_ops.specs.Script.{granule_of_task}
 
 -- ---- two holders of one lock
@@ -111,15 +113,18 @@ is_holder g callers d b u at made under_way inside = record {
   acts = subst (λ (k : GeometryData). idle_answer k u ≡ None) made.0 (subst (HasActs b.geometry) under_way made.1.acts);
 }
 
--- the others keep what they see, where a word is written that is of another lock block or of none
-pub others_see : {g : GeometryData} {words : List ℕ} {n : Option WordName} {after : List ℕ} (callers : List Caller) (d m : ℕ) (y : Caller) → Writes g words n after → IsOfBlock g m n → IsGeometry g → IsMade g y → slice_get callers d ≡ Some y
-    → ((b : AgentData) (u : Task) → Holder g callers d b u → lock_number g.setup (address_of u) ≢ m) → Sees words y → Sees after y
-others_see callers d m (caller.Cpu looks) writes of geometry made at apart sees = tt
-others_see {g = g} {words = words} {after = after} callers d m (caller.Agent b) writes of geometry made at apart sees =
-    sees_left b.geometry words after b.stage (task_of b)
+-- the others keep what they see, where a word is written that is of another lock block or of none, and the map stays
+-- within their 512 MB
+pub others_see : {g : GeometryData} {words : List ℕ} {n : Option WordName} {after : List ℕ} (k l : ℕ → Gpi) (callers : List Caller) (d m : ℕ) (y : Caller) → Writes g words n after → IsOfBlock g m n → IsMade g y → slice_get callers d ≡ Some y
+    → ((b : AgentData) (u : Task) → Holder g callers d b u → (lock_number g.setup (address_of u) ≢ m) × AgreesAround g.setup k l (granule_of_task g u / 16)) → Sees k words y → Sees l after y
+others_see k l callers d m (caller.Cpu looks) writes of made at apart sees = tt
+others_see {g = g} {words = words} {after = after} k l callers d m (caller.Agent b) writes of made at apart sees =
+    sees_left b.geometry k l words after b.stage (task_of b)
     (λ u under_way inside.
     let theirs = is_holder g callers d b u at made under_way inside in
-    subst (λ (k : GeometryData). KeepsWords k words after u) (sym made.0) (words_kept m u writes of geometry (acts_inside g u theirs.acts) (apart b u theirs))) sees
+    let away = apart b u theirs in
+    subst (λ (x : GeometryData). IsKept x k l words after u) (sym made.0)
+    (record { generations = generations_kept m u writes of (acts_inside g u theirs.acts) away.0; agrees = away.1 })) sees
 
 -- ---- granules and regions of different lock blocks
 

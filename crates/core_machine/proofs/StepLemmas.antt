@@ -4,6 +4,7 @@ use Rattle.std.proofs.Common.{◌≡◌, ◌≢◌, ℕ, ◌+◌, ◌*◌, ◌<�
 use Rattle.std.specs.Prelude.{slice_get, IfSome}
 use Rattle.std.proofs.lemmas.Bool.{cases_Bool, eqb-true, eq-eqb}
 use Rattle.std.proofs.lemmas.List.Elements.{All-set}
+use Rattle.gpi_values.specs.declared.gpi.Gpi.{Gpi}
 use Rattle.gpt_descriptors.specs.declared.size.Size.{Size}
 use Rattle.gpt_descriptors.specs.Sizes.{granule_bytes}
 use Rattle.gpt_descriptors.specs.Places.{GeometryData, WordName, blocks_in_region}
@@ -18,7 +19,7 @@ use Rattle.history.specs.Counts.{is_by, is_change, is_completion, region_of, cou
 use Rattle.history.proofs.HistoryLemmas.{state_after-append}
 use Rattle.core_machine.specs.declared.caller.Caller.{Caller}
 use Rattle.core_machine.specs.InnerCallers.{own_of, call_of}
-use Rattle.core_machine.specs.InnerTables.{MeansMap}
+use Rattle.core_machine.specs.InnerTables.{AreTables}
 use Rattle.core_machine.specs.InnerLocks.{holds}
 use Rattle.core_machine.specs.InnerOpened.{OpenAreHeld}
 use Rattle.core_machine.specs.InnerSeen.{Sees}
@@ -28,6 +29,7 @@ use Rattle.core_machine.specs.InnerCounted.{known_answers, caller_tasks}
 use Rattle.core_machine.specs.InnerHistory.{AreAllowed}
 use Rattle.core_machine.specs.InnerInvariant.{IsMade}
 use Rattle.core_machine.specs.InnerScene.{Scene, state_in, HoldsIn, scene_after}
+use Rattle.core_machine.specs.Scenarios.{map_at}
 use Rattle.core_machine.specs.Facts.{IsCounted, AreUndisturbed, generation_word, is_on_block}
 use Rattle.core_machine.proofs.ListLemmas.{one, each_set}
 use Rattle.core_machine.proofs.LockLemmas.{locks_keep}
@@ -49,6 +51,13 @@ abbrev pub added_to : GeometryData → Size → ℕ → Option Entry → ℕ
 added_to g y region None = 0
 added_to g y region (Some e) = one (is_change e && eqb (region_of (granule_bytes g.setup) y (granule_in e)) region)
 
+-- the map before and after it
+abbrev pub map_in : Scene → ℕ → Gpi
+map_in s = map_at (state_in s).map
+
+abbrev pub map_next : Scene → Option Entry → ℕ → Gpi
+map_next s o = map_at (state_after (state_in s) (list_of o)).map
+
 -- It is of the call under way, which goes on. Its caller holds the lock of its block, and the state allows it.
 pub record IsEntryOf (g : GeometryData) (s : Scene) (c : ℕ) (me x : Caller) (e : Entry) : Type 0 where
   pub caller : caller_in e ≡ c
@@ -65,11 +74,11 @@ pub record Step (g : GeometryData) (s : Scene) (c : ℕ) (me x : Caller) (n : Op
   pub made : IsMade g x
   pub writes : Writes g s.words n after
   pub entry : IfSome o (IsEntryOf g s c me x)
-  pub tables : MeansMap g after (state_after (state_in s) (list_of o)).map
+  pub tables : AreTables g after (set s.callers c x) (map_next s o)
   pub opened : OpenAreHeld (state_after (state_in s) (list_of o)).opened (set s.callers c x)
   pub locks : (m : ℕ) → m < 128 → lock_bit after m + one (holds m me) ≡ lock_bit s.words m + one (holds m x)
-  pub seen : Sees after x
-  pub others : (d : ℕ) (y : Caller) → d ≢ c → slice_get s.callers d ≡ Some y → Sees after y
+  pub seen : Sees (map_next s o) after x
+  pub others : (d : ℕ) (y : Caller) → d ≢ c → slice_get s.callers d ≡ Some y → Sees (map_next s o) after y
   pub raised : (y : Size) (region : ℕ) → region < blocks_in_region y * g.setup.gigabytes
       → generation_word g after y region + one (is_due y region x) ≡ generation_word g s.words y region + one (is_due y region me) + added_to g y region o
   pub alone : (m : ℕ) → holds m x ≡ true → IsAlone g.setup m c (call_of x) s.history
@@ -134,10 +143,11 @@ step_keeps g s c me x n after o stands step =
         granules = stands.shape.granules;
         made = All-set (IsMade g) s.callers c x step.made stands.shape.made;
       };
-      tables = subst (λ (st : State). MeansMap g after st.map) (sym same) step.tables;
+      tables = subst (λ (st : State). AreTables g after (set s.callers c x) (map_at st.map)) (sym same) step.tables;
       opened = subst (λ (st : State). OpenAreHeld st.opened (set s.callers c x)) (sym same) step.opened;
       locks = locks_keep s.words after s.callers c me x step.at stands.locks step.locks;
-      seen = each_set (λ (d : ℕ) (y : Caller). Sees after y) s.callers c x step.seen step.others;
+      seen = subst (λ (st : State). (d : ℕ) (y : Caller) → slice_get (set s.callers c x) d ≡ Some y → Sees (map_at st.map) after y) (sym same)
+          (each_set (λ (d : ℕ) (y : Caller). Sees (map_next s o) after y) s.callers c x step.seen step.others);
       generations = generations_keep g s.words after s.callers h c me x (list_of o) step.at stands.generations
           (λ y region within. omega (arith, step.raised y region within, count_grown g y region h o));
       undisturbed = grown (AreUndisturbed g.setup) (IsEntryOf g s c me x) h o step.entry stands.undisturbed

@@ -1,4 +1,4 @@
--- The tables: what an act leaves of them, and what a loaded L1 word says.
+-- Addresses and their granules, and words that are descriptors.
 use Rattle.std.proofs.Common.{◌≡◌, ℕ, ◌+◌, ◌*◌, ◌/◌, ◌%◌, ◌^◌, ◌<◌, List, true, false, eqb, Option, Some, None, refl, sym, ap, ◌∙◌, subst, arith, inl, inr, mul_comm}
 use Rattle.std.specs.Prelude.{slice_get, slice_index, is_some}
 use Rattle.std.proofs.Math.Nat.{mod-add-div, div-lt_iff_lt-mul, mul-div_cancel}
@@ -11,27 +11,6 @@ use Rattle.gpt_descriptors.specs.Places.{GeometryData, IsGeometry, l1_words, l1_
 use Rattle.gpt_descriptors.proofs.SizeLemmas.{granule_low, word_is, table_whole}
 use Rattle.gpt_descriptors.proofs.PlaceLemmas.{index_within}
 use Rattle.delegate_ops.specs.Deciding.{granule_place, is_unusable}
-use Rattle.core_machine.specs.InnerTables.{gpi_by, table_gpi, table_word, MeansMap}
-
--- ---- acts elsewhere
-
--- every L1 word is as before
-abbrev pub KeepsTables : GeometryData → List ℕ → List ℕ → Type 0
-KeepsTables g words after = (i : ℕ) → i < l1_words g → table_word g after i ≡ table_word g words i
-
-same_gpi : (g : GeometryData) (words after : List ℕ) (pa : ℕ) (o : Option ℕ) → IsGeometry g → l1_index_of g pa ≡ o → KeepsTables g words after → table_gpi g after pa ≡ table_gpi g words pa
-same_gpi g words after pa None geometry at keeps = rw at refl
-same_gpi g words after pa (Some i) geometry at keeps =
-    rw at (ap (λ (word : ℕ). word_gpi word (granule_place g pa)) (keeps i (index_within g pa i geometry at)))
-
-pub tables_keep : (g : GeometryData) (words after : List ℕ) (map : List Gpi) → IsGeometry g → KeepsTables g words after → MeansMap g words map → MeansMap g after map
-tables_keep g words after map geometry keeps means = record {
-  meaning = λ granule within. same_gpi g words after (granule * granule_bytes g.setup) (l1_index_of g (granule * granule_bytes g.setup)) geometry refl keeps ∙ means.meaning granule within;
-  fills = λ i j z gpi i_in j_in entry block.
-      keeps j j_in ∙ means.fills i j z gpi i_in j_in (ap l1_entry (sym (keeps i i_in)) ∙ entry) block ∙ sym (keeps i i_in);
-  permitted = λ i z gpi i_in entry. means.permitted i z gpi i_in (ap l1_entry (sym (keeps i i_in)) ∙ entry);
-  bounded = λ i i_in. subst (λ (word : ℕ). word < 2 ^ 64) (sym (keeps i i_in)) (means.bounded i i_in);
-}
 
 -- ---- granules
 
@@ -71,12 +50,3 @@ readable_by word place gpi (Some e) entry means = rw entry refl
 
 pub word_readable : (word place : ℕ) (gpi : Gpi) → word_gpi word place ≡ Some gpi → is_some (l1_entry word) ≡ true
 word_readable word place gpi means = readable_by word place gpi (l1_entry word) refl means
-
--- the L1 word of a usable address gives its granule's GPI
-pub loaded_gpi : (g : GeometryData) (words : List ℕ) (map : List Gpi) (pa place : ℕ) → MeansMap g words map → pa < space_bytes g.setup → pa % granule_bytes g.setup ≡ 0 → l1_place_of g pa ≡ Some place
-    → word_gpi (slice_index words place) (granule_place g pa) ≡ slice_get map (pa / granule_bytes g.setup)
-loaded_gpi g words map pa place means inside aligned there =
-    let start = granule_start g.setup pa aligned in
-    let meaning : table_gpi g words pa ≡ slice_get map (pa / granule_bytes g.setup) =
-    ap (table_gpi g words) (sym start) ∙ means.meaning (pa / granule_bytes g.setup) (granule_within g.setup pa inside) in
-    sym (ap (gpi_by g words pa) there) ∙ meaning

@@ -18,13 +18,17 @@ use Rattle.bit_locks.specs.Locks.{lock_number, lock_bit}
 use Rattle.history.specs.declared.call.Task.{Task}
 use Rattle.delegate_ops.specs.declared.stage.Stage.{Stage}
 use Rattle.delegate_ops.specs.declared.stage.Stage.TheVariants as stage
+use Rattle.table_meaning.specs.Changing.{AgreesAround}
+use Rattle.table_meaning.specs.Equation.{AreWords}
+use Rattle.table_meaning.proofs.FactLemmas.{facts_local}
 use Rattle.delegate_ops.specs.Deciding.{address_of}
+use Rattle.delegate_ops.specs.Script.{granule_of_task}
 use Rattle.core_machine.specs.InnerLocks.{is_inside}
-use Rattle.core_machine.specs.InnerSeen.{SeesAt, SeesWord}
-use Rattle.core_machine.specs.InnerTables.{MeansMap}
+use Rattle.core_machine.specs.InnerSeen.{SeesAt}
+use Rattle.core_machine.specs.InnerTables.{known_at}
 use Rattle.core_machine.specs.InnerInvariant.{AreIdle}
 use Rattle.core_machine.specs.Facts.{generation_word}
-use Rattle.core_machine.proofs.TableLemmas.{tables_keep}
+use Rattle.core_machine.proofs.ChangeLemmas.{index_below}
 
 -- ---- the word that is written
 
@@ -67,9 +71,9 @@ differs : (p : Option WordName → Bool) (n m : Option WordName) → p n ≡ fal
 differs p n m unlike is same = let both : true ≡ false = sym is ∙ ap p (sym same) ∙ unlike in cc
 
 module _ {g : GeometryData} {words : List ℕ} {n : Option WordName} {after : List ℕ} (writes : Writes g words n after) where
-  pub tables_left : (map : List Gpi) → is_level1 n ≡ false → IsGeometry g → MeansMap g words map → MeansMap g after map
-  tables_left map unlike geometry means =
-      tables_keep g words after map geometry (λ i low. writes.beside (Level1 i) low (differs is_level1 n (Some (Level1 i)) unlike refl)) means
+  pub words_left : (m : ℕ → Gpi) (apart : ℕ → Option ℕ) → is_level1 n ≡ false → IsGeometry g → AreWords g m apart words → AreWords g m apart after
+  words_left m apart unlike geometry are = λ w i at.
+      writes.beside (Level1 i) (index_below g w i geometry at) (differs is_level1 n (Some (Level1 i)) unlike refl) ∙ are w i at
 
   pub locks_left : is_lock n ≡ false → (m : ℕ) → m < 128 → lock_bit after m ≡ lock_bit words m
   locks_left unlike m low =
@@ -91,7 +95,7 @@ module _ {g : GeometryData} {words : List ℕ} {n : Option WordName} {after : Li
 
 -- ---- addresses of one lock
 
-number_by_block : (s : SetupData) (p q : ℕ) → p / 2 ^ 29 ≡ q / 2 ^ 29 → lock_number s p ≡ lock_number s q
+pub number_by_block : (s : SetupData) (p q : ℕ) → p / 2 ^ 29 ≡ q / 2 ^ 29 → lock_number s p ≡ lock_number s q
 number_by_block s p q same =
     elim (cases_Bool (eqb s.lock_blocks 0)) [ inl none ↦ rw none refl | inr some ↦ rw some (ap (λ (b : ℕ). b / s.lock_blocks) same) ]
 
@@ -120,20 +124,10 @@ word_place g pa place (Some i) index there = (i, index, cc)
 pub index_at : (g : GeometryData) (pa place : ℕ) → l1_place_of g pa ≡ Some place → (i : ℕ) × (l1_index_of g pa ≡ Some i) × (place ≡ place_of g (Level1 i))
 index_at g pa place there = word_place g pa place (l1_index_of g pa) refl there
 
--- the word is of lock block m: the L1 word or a generation of one of its addresses, or a word that no call keeps
+-- the word is of lock block m: a generation around one of its addresses, or a word that no call keeps
 abbrev pub IsOfBlock : GeometryData → ℕ → Option WordName → Type 0
 IsOfBlock g m (Some (Generation z block)) = (q : ℕ) × (block ≡ q / size_bytes z) × (lock_number g.setup q ≡ m)
-IsOfBlock g m (Some (Level1 i)) = (q : ℕ) × (l1_index_of g q ≡ Some i) × (lock_number g.setup q ≡ m)
 IsOfBlock g m n = Unit {0}
-
-other_word : (g : GeometryData) (m : ℕ) (n : Option WordName) (pa i : ℕ) → IsOfBlock g m n → lock_number g.setup pa ≢ m → l1_index_of g pa ≡ Some i → n ≢ Some (Level1 i)
-other_word g m (Some (Level1 j)) pa i of apart index same =
-    let there : l1_index_of g of.0 ≡ Some i = of.1 ∙ same_index j i same in
-    apart (number_by_word g.setup pa of.0 (l1_index_one g.setup (l0_words g) _ _ i index there) ∙ of.2)
-  where
-    same_index : (j i : ℕ) → Some (Level1 j) ≡ Some (Level1 i) → Some j ≡ Some i
-    same_index j i same = cc
-other_word g m n pa i of apart index same = cc
 
 other_generation : (g : GeometryData) (m : ℕ) (n : Option WordName) (pa : ℕ) (y : Size) → IsOfBlock g m n → lock_number g.setup pa ≢ m → n ≢ Some (Generation y (pa / size_bytes y))
 other_generation g m (Some (Generation z block)) pa y of apart same =
@@ -142,33 +136,55 @@ other_generation g m (Some (Generation z block)) pa y of apart same =
     apart (number_by_region g.setup y pa of.0 (sym region ∙ of.1 ∙ ap (λ (x : Size). of.0 / size_bytes x) size_same) ∙ of.2)
 other_generation g m n pa y of apart same = cc
 
--- the words that a call keeps are as they were
-pub record KeepsWords (g : GeometryData) (words after : List ℕ) (t : Task) : Type 0 where
-  pub word : (place : ℕ) → l1_place_of g (address_of t) ≡ Some place → slice_index after place ≡ slice_index words place
-  pub generations : (y : Size) → slice_index after (gen_place_of g y (address_of t)) ≡ slice_index words (gen_place_of g y (address_of t))
+-- the generations that a call keeps are as they were
+abbrev pub KeepsGenerations : GeometryData → List ℕ → List ℕ → Task → Type 0
+KeepsGenerations g words after t = (y : Size) → slice_index after (gen_place_of g y (address_of t)) ≡ slice_index words (gen_place_of g y (address_of t))
 
 -- a word of another lock block was written
-pub words_kept : {g : GeometryData} {words : List ℕ} {n : Option WordName} {after : List ℕ} (m : ℕ) (t : Task) → Writes g words n after → IsOfBlock g m n → IsGeometry g → address_of t < space_bytes g.setup
-    → lock_number g.setup (address_of t) ≢ m → KeepsWords g words after t
-words_kept {g = g} {words = words} {n = n} {after = after} m t writes of geometry inside apart = record {
-  word = λ place there.
-      let at = index_at g (address_of t) place there in
-      ap (slice_index after) at.2 ∙ writes.beside (Level1 at.0) (index_within g (address_of t) at.0 geometry at.1) (other_word g m n (address_of t) at.0 of apart at.1) ∙ ap (slice_index words) (sym at.2);
-  generations = λ y. writes.beside (Generation y (address_of t / size_bytes y)) (generation_named g y (address_of t) inside) (other_generation g m n (address_of t) y of apart);
-}
+pub generations_kept : {g : GeometryData} {words : List ℕ} {n : Option WordName} {after : List ℕ} (m : ℕ) (t : Task) → Writes g words n after → IsOfBlock g m n → address_of t < space_bytes g.setup
+    → lock_number g.setup (address_of t) ≢ m → KeepsGenerations g words after t
+generations_kept {g = g} {n = n} m t writes of inside apart = λ y.
+    writes.beside (Generation y (address_of t / size_bytes y)) (generation_named g y (address_of t) inside) (other_generation g m n (address_of t) y of apart)
 
-word_left : (g : GeometryData) (words after : List ℕ) (t : Task) (word : ℕ) (found : Option Gpi) → KeepsWords g words after t → SeesWord g words t word found → SeesWord g after t word found
-word_left g words after t word found keeps sees = record { stands = λ place there. keeps.word place there ∙ sees.stands place there; gives = sees.gives }
+-- what a call at its stage has to find again: its generations, and the map within its 512 MB
+pub record IsKept (g : GeometryData) (m l : ℕ → Gpi) (words after : List ℕ) (t : Task) : Type 0 where
+  pub generations : KeepsGenerations g words after t
+  pub agrees : AgreesAround g.setup m l (granule_of_task g t / 16)
 
 -- what a call sees at its stage it still sees
-pub sees_left : (g : GeometryData) (words after : List ℕ) (s : Stage) (o : Option Task) → ((t : Task) → o ≡ Some t → is_inside s ≡ true → KeepsWords g words after t) → SeesAt g words s o → SeesAt g after s o
-sees_left g words after (stage.Reading z k) (Some t) keeps sees =
+pub sees_left : (g : GeometryData) (m l : ℕ → Gpi) (words after : List ℕ) (s : Stage) (o : Option Task) → ((t : Task) → o ≡ Some t → is_inside s ≡ true → IsKept g m l words after t)
+    → SeesAt g m words s o → SeesAt g l after s o
+sees_left g m l words after (stage.Reading z k) (Some t) keeps sees =
     let kept = keeps t refl refl in
-    record { word = word_left g words after t k.word _ kept sees.word; generations = λ y before. kept.generations y ∙ sees.generations y before }
-sees_left g words after (stage.Changing c k) (Some t) keeps sees =
+    record {
+      known = facts_local g.setup m l (granule_of_task g t) (known_at (stage.Reading z k)) kept.agrees sees.known;
+      gives = sees.gives;
+      generations = λ y before. kept.generations y ∙ sees.generations y before;
+    }
+sees_left g m l words after (stage.Splitting z d k) (Some t) keeps sees =
     let kept = keeps t refl refl in
-    record { word = word_left g words after t k.word _ kept sees.word; granules = sees.granules; generations = λ y. kept.generations y ∙ sees.generations y }
-sees_left g words after (stage.Raising c z k) (Some t) keeps sees =
+    record {
+      known = facts_local g.setup m l (granule_of_task g t) (known_at (stage.Splitting z d k)) kept.agrees sees.known;
+      needs = sees.needs;
+      generations = λ y. kept.generations y ∙ sees.generations y;
+    }
+sees_left g m l words after (stage.Changing c k) (Some t) keeps sees =
     let kept = keeps t refl refl in
-    record { word = word_left g words after t k.word _ kept sees.word; granules = sees.granules; generations = λ y. kept.generations y ∙ sees.generations y }
-sees_left g words after s o keeps sees = tt
+    record {
+      known = facts_local g.setup m l (granule_of_task g t) (known_at (stage.Changing c k)) kept.agrees sees.known;
+      gives = sees.gives;
+      generations = λ y. kept.generations y ∙ sees.generations y;
+    }
+sees_left g m l words after (stage.Raising c z k) (Some t) keeps sees =
+    let kept = keeps t refl refl in
+    record {
+      known = facts_local g.setup m l (granule_of_task g t) (known_at (stage.Raising c z k)) kept.agrees sees.known;
+      gives = sees.gives;
+      generations = λ y. kept.generations y ∙ sees.generations y;
+    }
+sees_left g m l words after (stage.Merging f k) (Some t) keeps sees =
+    facts_local g.setup m l (granule_of_task g t) (known_at (stage.Merging f k)) (keeps t refl refl).agrees sees
+sees_left g m l words after stage.Locking o keeps sees = tt
+sees_left g m l words after stage.Looking o keeps sees = tt
+sees_left g m l words after (stage.Releasing given) o keeps sees = tt
+sees_left g m l words after s None keeps sees = tt

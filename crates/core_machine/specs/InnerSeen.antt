@@ -13,7 +13,7 @@ use Rattle.history.specs.Legality.{needed}
 use Rattle.delegate_ops.specs.declared.stage.Kept.{Kept}
 use Rattle.delegate_ops.specs.declared.stage.Stage.{Stage}
 use Rattle.delegate_ops.specs.declared.stage.Stage.TheVariants as stage
-use Rattle.delegate_ops.specs.Deciding.{address_of, granule_place, generation_in, is_granules}
+use Rattle.delegate_ops.specs.Deciding.{address_of, granule_place, generation_in}
 use Rattle.delegate_ops.specs.Changing.{from_of, to_of}
 use Rattle.delegate_ops.specs.Script.{granule_of_task}
 use Rattle.delegate_ops.specs.InnerAgents.{task_of}
@@ -52,12 +52,11 @@ pub record SeesSplit (g : GeometryData) (m : ℕ → Gpi) (words : List ℕ) (t 
   pub needs : needed t ≡ Some d.gpi
   pub generations : (y : Size) → SeesGeneration g words t k y
 
--- from then on: the word is one of granules, and gives the granule this GPI
+-- from then on: the word gives the granule this GPI
 pub record SeesAll (g : GeometryData) (m : ℕ → Gpi) (words : List ℕ) (t : Task) (found : Gpi)
     (k : Kept) : Type 0 where
   pub known : Facts g.setup m (granule_of_task g t) (Keeps k.word)
   pub gives : word_gpi k.word (granule_place g (address_of t)) ≡ Some found
-  pub granules : is_granules k.word ≡ true
   pub generations : (y : Size) → SeesGeneration g words t k.generations y
 
 abbrev pub SeesAt : GeometryData → (ℕ → Gpi) → List ℕ → Stage → Option Task → Type 0

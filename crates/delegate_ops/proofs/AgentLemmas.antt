@@ -1,7 +1,7 @@
 -- Agents after an act are agents.
 use Rattle.std.proofs.Common.{◌≡◌, ℕ, zero, suc, ltb, ◌+◌, ◌≤◌, ◌<◌, ◌++◌, ◌∷◌, [], List, false, cond, Some, None, Option, length, drop, refl, sym, ap, ◌∙◌, subst, arith, inl, inr, length-append, length-drop}
 use Rattle.std.specs.Prelude.{slice_get}
-use Rattle.std.proofs.lemmas.Bool.{cases_Bool, ltb-false, lt-ltb}
+use Rattle.std.proofs.lemmas.Bool.{cases_Bool, cases_eq, eq-eqb, ne_eqb, ltb-false, lt-ltb}
 use Rattle.std.proofs.lemmas.Option.{slice_get_within, get_or_from_slice_get}
 use Rattle.gpt_descriptors.specs.declared.size.Size.{Size}
 use Rattle.gpt_descriptors.specs.declared.size.Size.TheVariants as size
@@ -15,6 +15,12 @@ use Rattle.gpt_descriptors.specs.Places.{GeometryData, Level1, place_of, l1_inde
 use Rattle.gpt_descriptors.proofs.CanonicalLemmas.{words_some}
 use Rattle.shared_words.specs.declared.act.Act.{Act}
 use Rattle.shatter.specs.Splitting.{SplittingData, advanced}
+use Rattle.gpt_descriptors.specs.Fields.{equal_gpi}
+use Rattle.gpt_descriptors.specs.declared.size.MaxBlock.{MaxBlock}
+use Rattle.gpt_descriptors.specs.Sizes.{is_permitted}
+use Rattle.table_meaning.specs.Fusing.{block_words, loads_of, needed_word, test_or_store, passed, failed, loaded, stored, begun}
+use Rattle.table_meaning.specs.declared.fusing.Fusing.{Fusing}
+use Rattle.table_meaning.specs.declared.fusing.Fusing.TheVariants.{Testing, Storing, Ended}
 use Rattle.fuse.specs.Merging.{FuseData}
 use Rattle.fuse.specs.Merging as fuse
 use Rattle.history.specs.declared.call.Task.{Task}
@@ -176,18 +182,68 @@ split_fits g t z d k fits =
 
 -- merging that isn't over has a next act
 merging_fits : (g : GeometryData) (t : Task) (f : FuseData) (k : Generations) (index : ℕ) (o : Option Act) → l1_index_of g (address_of t) ≡ Some index → f.first ≡ place_of g (Level1 0) → f.own ≡ index
-    → f.two ≡ words_of g.setup size.Two → f.max ≡ g.setup.max → fuse.next_of f ≡ o → IsStage g (merging_stage o f k) (Some t)
-merging_fits g t f k index None there first own two max next = tt
-merging_fits g t f k index (Some a) there first own two max next =
-    record { index = index; there = there; first = first; own = own; two = two; max = max; some = rw next refl }
+    → f.two ≡ words_of g.setup size.Two → f.max ≡ g.setup.max → fuse.IsCounted f.two f.step → fuse.next_of f ≡ o → IsStage g (merging_stage o f k) (Some t)
+merging_fits g t f k index None there first own two max counted next = tt
+merging_fits g t f k index (Some a) there first own two max counted next =
+    record { index = index; there = there; first = first; own = own; two = two; max = max; counted = counted; some = rw next refl }
+
+-- the numbers of its loads and stores stay below their counts
+loads_some : (two : ℕ) (z : Size) → 0 < two → 0 < loads_of two z
+loads_some two size.Two some = some
+loads_some two size.ThirtyTwo some = omega arith
+loads_some two size.FiveTwelve some = omega arith
+
+stores_some : (two : ℕ) (z : Size) → 0 < two → 0 < block_words two z
+stores_some two size.Two some = some
+stores_some two size.ThirtyTwo some = omega (arith, some)
+stores_some two size.FiveTwelve some = omega (arith, some)
+
+test_counted : (two : ℕ) (max : MaxBlock) (z before : Size) → 0 < two → fuse.IsCounted two (test_or_store max z before)
+test_counted two max z before some =
+    elim (cases_Bool (is_permitted max z)) [ inl permitted ↦ rw permitted (loads_some two z some) | inr refused ↦ rw refused (stores_some two before some) ]
+
+passed_counted : (two : ℕ) (max : MaxBlock) (z : Size) → 0 < two → fuse.IsCounted two (passed max z)
+passed_counted two max size.Two some = test_counted two max size.ThirtyTwo size.Two some
+passed_counted two max size.ThirtyTwo some = test_counted two max size.FiveTwelve size.ThirtyTwo some
+passed_counted two max size.FiveTwelve some = stores_some two size.FiveTwelve some
+
+failed_counted : (two : ℕ) (z : Size) → 0 < two → fuse.IsCounted two (failed z)
+failed_counted two size.Two some = tt
+failed_counted two size.ThirtyTwo some = stores_some two size.Two some
+failed_counted two size.FiveTwelve some = stores_some two size.ThirtyTwo some
+
+loaded_counted : (two : ℕ) (max : MaxBlock) (v : Gpi) (z : Size) (k word : ℕ) → 0 < two → k < loads_of two z → fuse.IsCounted two (loaded two max v z k word)
+loaded_counted two max v z k word some low =
+    elim (cases_eq word (needed_word v z)) [
+      | inr other ↦ rw (ne_eqb _ _ other) (failed_counted two z some)
+      | inl same ↦ elim (cases_eq (k + 1) (loads_of two z)) [
+        | inl all ↦ rw (eq-eqb _ _ same, eq-eqb _ _ all) (passed_counted two max z some)
+        | inr more ↦ rw (eq-eqb _ _ same, ne_eqb _ _ more) (omega (arith, low, more))
+      ]
+    ]
+
+stored_counted : (two : ℕ) (z : Size) (k : ℕ) → k < block_words two z → fuse.IsCounted two (stored two z k)
+stored_counted two z k low =
+    elim (cases_eq (k + 1) (block_words two z)) [ inl all ↦ rw (eq-eqb _ _ all) tt | inr more ↦ rw (ne_eqb _ _ more) (omega (arith, low, more)) ]
+
+after_counted : (two : ℕ) (max : MaxBlock) (v : Gpi) (f : Fusing) (old : ℕ) → 0 < two → fuse.IsCounted two f → fuse.IsCounted two (fuse.after_at two max v f old)
+after_counted two max v (Testing z k) old some low = loaded_counted two max v z k old some low
+after_counted two max v (Storing z k) old some low = stored_counted two z k low
+after_counted two max v (Ended o) old some low = tt
+
+begun_counted : (two : ℕ) (max : MaxBlock) (o : Option Gpi) → 0 < two → fuse.IsCounted two (begun max o)
+begun_counted two max None some = tt
+begun_counted two max (Some v) some = elim (cases_Bool (is_permitted max size.Two)) [ inl permitted ↦ rw permitted some | inr refused ↦ rw refused tt ]
 
 begun_fits : (g : GeometryData) (t : Task) (word : ℕ) (k : Generations) → idle_answer g t ≡ None → IsStage g (merged_stage (fuse.fuse_of g (number_of (l1_index_of g (address_of t))) word) k) (Some t)
 begun_fits g t word k acts =
     let there = acts_index g t acts in
-    rw there.1 (merging_fits g t (fuse.fuse_of g there.0 word) k there.0 _ there.1 refl refl refl refl refl)
+    rw there.1 (merging_fits g t (fuse.fuse_of g there.0 word) k there.0 _ there.1 refl refl refl refl (begun_counted (words_of g.setup size.Two) g.setup.max (equal_gpi word) (words_some g.setup size.Two)) refl)
 
 merged_fits : (g : GeometryData) (t : Task) (f : FuseData) (old : ℕ) (k : Generations) → IsMergingOf g (address_of t) f → IsStage g (merged_stage (fuse.took_of f old) k) (Some t)
-merged_fits g t f old k is = merging_fits g t (fuse.took_of f old) k is.index _ is.there is.first is.own is.two is.max refl
+merged_fits g t f old k is =
+    merging_fits g t (fuse.took_of f old) k is.index _ is.there is.first is.own is.two is.max
+    (after_counted f.two f.max f.gpi f.step old (subst (λ (n : ℕ). 0 < n) (sym is.two) (words_some g.setup size.Two)) is.counted) refl
 
 raised_fits : (g : GeometryData) (t : Task) (c : Change) (z : Size) (k : Kept) → idle_answer g t ≡ None → IsStage g (stage.Raising c z k) (Some t) → IsStage g (raised_stage g t c z (kept_raised z k)) (Some t)
 raised_fits g t change.First size.Two k acts fits = (fits.0, record { two = omega (arith, fits.1.two); thirty_two = fits.1.thirty_two; five_twelve = fits.1.five_twelve })

@@ -242,6 +242,7 @@ pub record IsMergingOf (g : GeometryData) (pa : ℕ) (f : FuseData) : Type 0 whe
   pub own : f.own ≡ index
   pub two : f.two ≡ words_of g.setup size.Two
   pub max : f.max ≡ g.setup.max
+  pub counted : fuse.IsCounted f.two f.step
   pub some : IsSome (fuse.next_of f)
 
 -- an agent without a call left is where it began
