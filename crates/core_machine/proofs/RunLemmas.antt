@@ -47,7 +47,7 @@ use Rattle.core_machine.proofs.OthersLemmas.{Holder, made_at_place, is_holder, h
 use Rattle.core_machine.proofs.WordLemmas.{number_by_region}
 use Rattle.core_machine.proofs.RaisedLemmas.{others_raised}
 use Rattle.core_machine.proofs.ActLemmas.{lock_low}
-use Rattle.core_machine.proofs.LoadActs.{state_length}
+use Rattle.core_machine.proofs.HolderLemmas.{state_length}
 use Rattle.core_machine.proofs.MachineLemmas.{turns_hold, scene_of}
 use Rattle.core_machine.proofs.TraceLemmas.{played_walked, trace_entries, trace_words, trace_answered, IsDone, done_stays, turns_taken, trace_known, trace_counts}
 use Rattle.core_machine.proofs.AnswerLemmas.{calls_cause, alone_told, worn_told}
