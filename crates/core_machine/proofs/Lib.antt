@@ -16,6 +16,7 @@ pub mod LockActs
 pub mod LoadActs
 pub mod ChangeActs
 pub mod RaiseActs
+pub mod BlockActs
 pub mod LawLemmas
 pub mod MachineLemmas
 pub mod CallLemmas
