@@ -1,9 +1,8 @@
 -- What words are for a history: the tables mean its map, and where a lock is clear the words of its block are canonical.
-use Rattle.std.proofs.Common.{◌≡◌, ◌≢◌, ℕ, zero, suc, ◌+◌, ◌*◌, ◌/◌, ◌≤◌, ◌<◌, ◌⊎◌, List, map, Bool, true, false, Option, Some, None, refl, sym, ap, ◌∙◌, subst, arith, inl, inr, mul_comm}
+use Rattle.std.proofs.Common.{◌≡◌, ◌≢◌, ℕ, ◌+◌, ◌*◌, ◌/◌, ◌<◌, ◌⊎◌, List, map, true, false, Option, Some, None, refl, sym, ap, ◌∙◌, subst, arith, inl, inr, mul_comm}
 use Rattle.std.specs.Prelude.{slice_get, slice_index}
-use Rattle.std.specs.List.{count_by}
 use Rattle.std.proofs.Math.Nat.{mul-div_cancel, div-div-eq-div-mul}
-use Rattle.std.proofs.lemmas.Bool.{cases_Bool, cases_eq}
+use Rattle.std.proofs.lemmas.Bool.{cases_Bool}
 use Rattle.std.proofs.lemmas.Nat.{mul-le}
 use Rattle.gpi_values.specs.declared.gpi.Gpi.{Gpi}
 use Rattle.gpt_descriptors.specs.declared.size.Size.TheVariants as size
@@ -13,13 +12,14 @@ use Rattle.gpt_descriptors.specs.Level0.{l1_index}
 use Rattle.gpt_descriptors.specs.Places.{GeometryData, IsGeometry, l0_words}
 use Rattle.gpt_descriptors.proofs.SizeLemmas.{granule_low, word_is, table_whole, words_whole}
 use Rattle.table_meaning.specs.Meaning.{TablesMean, AreCanonical}
-use Rattle.table_meaning.specs.Equation.{Step, Whole, Holder, apart_by}
+use Rattle.table_meaning.specs.Facts.{step_of}
+use Rattle.table_meaning.specs.Equation.{Whole, Holder, apart_by}
 use Rattle.table_meaning.proofs.EquationLemmas.{free_word}
 use Rattle.bit_locks.specs.Locks.{lock_number, lock_bit}
 use Rattle.history.specs.declared.call.Task.{Task}
 use Rattle.delegate_ops.specs.declared.stage.Stage.{Stage}
 use Rattle.delegate_ops.specs.declared.stage.Stage.TheVariants as stage
-use Rattle.delegate_ops.specs.Deciding.{address_of, idle_answer}
+use Rattle.delegate_ops.specs.Deciding.{address_of}
 use Rattle.delegate_ops.specs.Script.{granule_of_task}
 use Rattle.delegate_ops.specs.InnerAgents.{AgentData, IsAgent, task_of}
 use Rattle.core_machine.specs.declared.caller.Caller.{Caller}
@@ -29,7 +29,6 @@ use Rattle.core_machine.specs.InnerTables.{known_at, holder_by, granule_under_wa
 use Rattle.core_machine.specs.InnerInvariant.{IsMade}
 use Rattle.core_machine.specs.InnerScene.{Scene, HoldsIn}
 use Rattle.core_machine.specs.Facts.{table_part, map_after}
-use Rattle.table_meaning.specs.Facts.{step_of}
 use Rattle.core_machine.proofs.LockLemmas.{some_pass}
 use Rattle.core_machine.proofs.OthersLemmas.{Holder as LockHolder, made_at_place, is_holder, holder_has, granule_address}
 use Rattle.core_machine.proofs.WordLemmas.{number_by_region}
@@ -38,7 +37,7 @@ use Rattle.core_machine.proofs.ChangeLemmas.{index_inside}
 use Rattle.core_machine.proofs.OpeningLemmas.{word_back, holder_at}
 use Rattle.core_machine.proofs.PartLemmas.{part_apart, part_means}
 
--- ---- to come from delegate_ops
+-- ---- to come from delegate_ops/proofs/AgentLemmas: then this is an import
 
 idle_stage : (a : AgentData) → IsAgent a → task_of a ≡ None → a.stage ≡ stage.Locking
 idle_stage a is none = ?

@@ -1,5 +1,5 @@
 -- The words before the first act: built tables among them mean the region map, and no caller is at work on them.
-use Rattle.std.proofs.Common.{◌≡◌, ℕ, [], mul_comm, ◌+◌, ◌*◌, ◌/◌, ◌%◌, ◌<◌, List, map, length, false, Option, Some, None, refl, sym, ap, ◌∙◌, subst, arith}
+use Rattle.std.proofs.Common.{◌≡◌, ℕ, [], mul_comm, ◌*◌, ◌/◌, ◌<◌, List, map, length, false, Option, Some, None, refl, sym, ap, ◌∙◌, subst, arith}
 use Rattle.std.specs.Prelude.{slice_get, slice_index}
 use Rattle.std.specs.List.{All, range_with_len}
 use Rattle.std.proofs.Math.Nat.{div-div-eq-div-mul, div-lt_iff_lt-mul}
