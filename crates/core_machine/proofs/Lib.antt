@@ -28,6 +28,7 @@ pub mod FitLemmas
 pub mod TraceLemmas
 pub mod AnswerLemmas
 pub mod PartLemmas
+pub mod FreeLemmas
 pub mod RunLemmas
 pub mod CallerLaws
 pub mod StillLemmas

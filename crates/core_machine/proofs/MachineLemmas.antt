@@ -42,7 +42,8 @@ use Rattle.core_machine.proofs.ListLemmas.{one}
 use Rattle.core_machine.proofs.ToldLemmas.{idle_entries}
 use Rattle.core_machine.specs.InnerScene.{Scene}
 use Rattle.core_machine.proofs.LawLemmas.{one_act}
-use Rattle.core_machine.specs.Facts.{IsCounted}
+use Rattle.core_machine.proofs.OpeningLemmas.{opening_tables}
+use Rattle.core_machine.specs.Facts.{IsCounted, map_after}
 use Rattle.core_machine.specs.Scenarios.{round_turns}
 use Rattle.delegate_ops.specs.InnerScript.{HasWalked}
 
@@ -140,9 +141,9 @@ none_open g (x ∷ callers) fresh_all =
     flat_map-cons open_by x callers
     ∙ rw (fresh_open g x (All-head (IsFresh g) x callers fresh_all)) (none_open g callers (All-tail (IsFresh g) x callers fresh_all))
 
-fresh_sees : (g : GeometryData) (words : List ℕ) (x : Caller) → IsFresh g x → Sees words x
-fresh_sees g words (caller.Agent a) is = subst (λ (b : AgentData). Sees words (caller.Agent b)) (sym is.0) tt
-fresh_sees g words (caller.Cpu looks) is = tt
+fresh_sees : (g : GeometryData) (m : ℕ → Gpi) (words : List ℕ) (x : Caller) → IsFresh g x → Sees m words x
+fresh_sees g m words (caller.Agent a) is = subst (λ (b : AgentData). Sees m words (caller.Agent b)) (sym is.0) tt
+fresh_sees g m words (caller.Cpu looks) is = tt
 
 fresh_due : (g : GeometryData) (y : Size) (region : ℕ) (x : Caller) → IsFresh g x → is_due y region x ≡ false
 fresh_due g y region (caller.Agent a) is = ap (λ (b : AgentData). is_due y region (caller.Agent b)) is.0
@@ -166,12 +167,12 @@ opening_invariant g first callers words fresh_all starting = record {
     granules = starting.granules;
     made = All-weaker (IsFresh g) (IsMade g) (fresh_made g) callers fresh_all;
   };
-  tables = starting.tables;
+  tables = opening_tables g first callers words fresh_all starting;
   opened = λ granule. sym (ap (pairs_of granule) (none_open g callers fresh_all));
   locks = λ n below.
       ap (λ (word : ℕ). bit_at word (n % 64)) (starting.free (n / 64) (omega (arith, below))) ∙ bit_at-zero (n % 64)
       ∙ sym (none_holds n callers (All-weaker (IsFresh g) (λ x. holds n x ≡ false) (fresh_holds g n) callers fresh_all));
-  seen = λ c x at. fresh_sees g words x (fresh_at g callers c x fresh_all at);
+  seen = λ c x at. fresh_sees g (map_after first []) words x (fresh_at g callers c x fresh_all at);
   generations = λ y region within.
       omega (arith, starting.generations y region within, count_none (is_due y region) callers (λ d x at. fresh_due g y region x (fresh_at g callers d x fresh_all at)));
   undisturbed = undisturbed_empty g.setup;

@@ -40,7 +40,7 @@ fresh_is_agent g tasks geometry no_looks = record {
   no_looks = no_looks;
   answered = idle_few g tasks;
   acts = idle_then_acts g tasks;
-  stage = locking_fits (task_of (fresh g tasks));
+  stage = locking_fits g (task_of (fresh g tasks));
 }
 
 caller_fresh : (g : GeometryData) (s : Script) → IsGeometry g → IsFresh g (caller_of g s)
