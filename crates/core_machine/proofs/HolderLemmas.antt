@@ -63,6 +63,9 @@ far_apart g t u apart same =
 
 -- ---- the list of holders
 
+abbrev pub holders_of : List Caller → List Holder
+holders_of callers = map holder_by callers
+
 -- an agent outside is at its first stage
 outside_stage : (s : Stage) → is_inside s ≡ false → s ≡ stage.Locking
 outside_stage stage.Locking outside = refl

@@ -1,8 +1,8 @@
 -- The law of one act: by cases on the caller, its task under way and its stage.
-use Rattle.std.proofs.Common.{◌≡◌, ℕ, ◌<◌, ◌++◌, ◌∷◌, [], Option, Some, None, length, refl, ap, ◌∙◌, subst, inl, inr, sym, Bool, arith, false, ◌/◌, ◌⊎◌, true}
+use Rattle.std.proofs.Common.{◌≡◌, ℕ, ◌+◌, ◌*◌, ◌%◌, ◌<◌, ◌++◌, ◌∷◌, [], Option, Some, None, length, refl, ap, ◌∙◌, subst, inl, inr, sym, Bool, arith, false, ◌/◌, ◌⊎◌, true}
 use Rattle.std.specs.Prelude.{slice_get, option_and_then}
-use Rattle.std.proofs.lemmas.Bool.{cases_Bool}
-use Rattle.gpt_descriptors.specs.Places.{GeometryData, l1_place_of, Level1, WordName, Generation, IsGeometry, Lock, word_count, gen_place_of, IsWordName, place_of}
+use Rattle.std.proofs.lemmas.Bool.{cases_Bool, ltb-true}
+use Rattle.gpt_descriptors.specs.Places.{GeometryData, l0_words, l1_words, l1_place_of, Level1, WordName, Generation, IsGeometry, Lock, word_count, gen_place_of, IsWordName, place_of}
 use Rattle.shared_words.specs.declared.act.Act.{Act}
 use Rattle.shared_words.specs.declared.act.Act.TheVariants as act
 use Rattle.shared_words.specs.Acts.{place_in, answer_of}
@@ -13,7 +13,7 @@ use Rattle.delegate_ops.specs.declared.stage.Stage.{Stage}
 use Rattle.delegate_ops.specs.declared.stage.Stage.TheVariants as stage
 use Rattle.delegate_ops.specs.Deciding.{address_of, generation_in, idle_answer}
 use Rattle.delegate_ops.specs.Changing.{changed_word}
-use Rattle.delegate_ops.specs.InnerAgents.{AgentData, HasActs, task_of, act_at, next_of, is_held, took_at, took_under_way, took_of}
+use Rattle.delegate_ops.specs.InnerAgents.{AgentData, IsStage, IsSplittingOf, IsMergingOf, HasActs, task_of, act_at, next_of, is_held, took_at, took_under_way, took_of}
 use Rattle.delegate_ops.proofs.AgentLemmas.{took_is_agent}
 use Rattle.delegate_ops.proofs.ScriptLemmas.{some_mapped, step_walks}
 use Rattle.core_machine.specs.declared.caller.Caller.{Caller}
@@ -28,12 +28,28 @@ use Rattle.core_machine.proofs.LockActs.{ActKeeps, take_keeps, release_keeps}
 use Rattle.core_machine.proofs.LoadActs.{look_keeps, read_keeps}
 use Rattle.core_machine.proofs.ChangeActs.{change_keeps}
 use Rattle.core_machine.proofs.RaiseActs.{raise_keeps}
-use Rattle.delegate_ops.specs.Script.{lock_bit_of}
+use Rattle.core_machine.proofs.BlockActs.{split_place, split_keeps, merge_keeps}
+use Rattle.core_machine.proofs.ChangeLemmas.{index_below, word_by_granule}
+use Rattle.delegate_ops.specs.Script.{lock_bit_of, granule_of_task}
 use Rattle.delegate_ops.specs.InnerEntries.{made_at}
 use Rattle.core_machine.proofs.WordLemmas.{index_at, is_lock}
 use Rattle.gpt_descriptors.proofs.PlaceLemmas.{generation_named, index_within, place_below}
 use Rattle.delegate_ops.proofs.DecidingLemmas.{acts_inside}
-use Rattle.gpt_descriptors.specs.Sizes.{size_bytes}
+use Rattle.gpi_values.specs.declared.gpi.Gpi.{Gpi}
+use Rattle.gpt_descriptors.specs.declared.size.MaxBlock.{MaxBlock}
+use Rattle.gpt_descriptors.specs.declared.size.Size.TheVariants as size
+use Rattle.gpt_descriptors.specs.declared.size.Generations.{Generations}
+use Rattle.gpt_descriptors.specs.declared.entry.L1Entry.TheVariants as l1
+use Rattle.gpt_descriptors.specs.Entries.{l1_word}
+use Rattle.gpt_descriptors.specs.Level0.{l1_index}
+use Rattle.gpt_descriptors.specs.Sizes.{size_bytes, words_of}
+use Rattle.table_meaning.specs.declared.fusing.Fusing.{Fusing}
+use Rattle.table_meaning.specs.declared.fusing.Fusing.TheVariants.{Testing, Storing, Ended}
+use Rattle.table_meaning.specs.Fusing.{block_words, loads_of, load_at, store_at}
+use Rattle.table_meaning.proofs.PlaceLemmas.{block_index, load_index, store_index}
+use Rattle.table_meaning.proofs.FusingLemmas.{block_words_is}
+use Rattle.shatter.specs.Splitting.{store_of}
+use Rattle.fuse.specs.Merging as fuse
 use Rattle.gpt_descriptors.specs.declared.size.Size.{Size}
 use Rattle.history.specs.declared.call.Answer.{Answer}
 
@@ -41,8 +57,7 @@ use Rattle.history.specs.declared.call.Answer.{Answer}
 
 -- a step leaves the geometry and the tasks
 pub step_leaves : (a : AgentData) (t : Task) (s : Stage) (old : ℕ) → ((took_at a t s old).geometry ≡ a.geometry) × ((took_at a t s old).tasks ≡ a.tasks)
-step_leaves a t (stage.Releasing (Some answer)) old = (refl, refl)
-step_leaves a t (stage.Releasing None) old = (refl, refl)
+step_leaves a t (stage.Releasing answer) old = (refl, refl)
 step_leaves a t stage.Locking old = elim (cases_Bool (is_held a.geometry t stage.Locking old)) [ inl held ↦ rw held (refl, refl) | inr free ↦ rw free (refl, refl) ]
 step_leaves a t s old = (refl, refl)
 
@@ -71,7 +86,7 @@ pub record IsOn (g : GeometryData) (t : Task) (st : Stage) (next : Act) : Type 0
   pub name : WordName
   pub named : IsWordName g name
   pub place : place_in next ≡ place_of g name
-  pub how : ((st ≡ stage.Locking) × (next ≡ take_act (lock_bit_of g t))) ⊎ (((o : Option Answer) × (st ≡ stage.Releasing o) × (next ≡ release_act (lock_bit_of g t))) ⊎ ((is_lock (Some name) ≡ false) × (is_plain next ≡ true)))
+  pub how : ((st ≡ stage.Locking) × (next ≡ take_act (lock_bit_of g t))) ⊎ (((given : Answer) × (st ≡ stage.Releasing given) × (next ≡ release_act (lock_bit_of g t))) ⊎ ((is_lock (Some name) ≡ false) × (is_plain next ≡ true)))
 
 lock_row : (g : GeometryData) (t : Task) → IsGeometry g → idle_answer g t ≡ None → lock_number g.setup (address_of t) / 64 < 2
 lock_row g t geometry acts = omega (arith, lock_low g.setup (address_of t) geometry.setup (acts_inside g t acts))
@@ -85,29 +100,60 @@ on_generation : (g : GeometryData) (t : Task) (st : Stage) (z : Size) (next : Ac
 on_generation g t st z next acts here plain =
     record { name = Generation z (address_of t / size_bytes z); named = generation_named g z (address_of t) (acts_inside g t acts); place = here; how = inr (inr (refl, plain)) }
 
-pub act_word : (g : GeometryData) (t : Task) (st : Stage) (next : Act) → IsGeometry g → idle_answer g t ≡ None → act_at g st t ≡ Some next → IsOn g t st next
-act_word g t stage.Locking next geometry acts e =
+on_index : (g : GeometryData) (t : Task) (st : Stage) (i : ℕ) (next : Act) → i < l1_words g → place_in next ≡ place_of g (Level1 i) → is_plain next ≡ true → IsOn g t st next
+on_index g t st i next within here plain = record { name = Level1 i; named = within; place = here; how = inr (inr (refl, plain)) }
+
+merging_word : (g : GeometryData) (t : Task) (first own two : ℕ) (max : MaxBlock) (v : Gpi) (step : Fusing) (k : Generations) (next : Act) → IsGeometry g → IsMergingOf g (address_of t) (record { first = first; own = own; two = two; max = max; gpi = v; step = step })
+    → fuse.act_at first own two v step ≡ Some next → IsOn g t (stage.Merging (record { first = first; own = own; two = two; max = max; gpi = v; step = step }) k) next
+merging_word g t first own two max v (Testing z j) k next geometry is e =
+    let w : ℕ = granule_of_task g t / 16 in
+    let low : j < loads_of (words_of g.setup size.Two) z = subst (λ (n : ℕ). j < loads_of n z) is.two is.counted in
+    let at = ap (l1_index g.setup (l0_words g)) (sym (word_by_granule g.setup (address_of t))) ∙ is.there in
+    let load : act.Load (first + load_at two own z j) ≡ next = cc in
+    let place : first + load_at two own z j ≡ place_of g (Level1 (load_at (words_of g.setup size.Two) is.index z j)) = rw (is.first, is.two, is.own) (omega arith) in
+    on_index g t _ (load_at (words_of g.setup size.Two) is.index z j) next (index_below g _ _ geometry (load_index g.setup (l0_words g) z w is.index j at low)) (ap place_in (sym load) ∙ place) (ap is_plain (sym load))
+merging_word g t first own two max v (Storing z j) k next geometry is e =
+    let w : ℕ = granule_of_task g t / 16 in
+    let low : j < words_of g.setup z = subst (λ (n : ℕ). j < n) (sym (block_words_is g.setup z)) (subst (λ (n : ℕ). j < block_words n z) is.two is.counted) in
+    let at = ap (l1_index g.setup (l0_words g)) (sym (word_by_granule g.setup (address_of t))) ∙ is.there in
+    let store : act.Store (first + store_at two own z j) (l1_word (l1.Contig z v)) ≡ next = cc in
+    let place : first + store_at two own z j ≡ place_of g (Level1 (store_at (words_of g.setup size.Two) is.index z j)) = rw (is.first, is.two, is.own) (omega arith) in
+    on_index g t _ (store_at (words_of g.setup size.Two) is.index z j) next (index_below g _ _ geometry (store_index g.setup (l0_words g) z w is.index j at low)) (ap place_in (sym store) ∙ place) (ap is_plain (sym store))
+merging_word g t first own two max v (Ended o) k next geometry is e = absurd cc
+
+pub act_word : (g : GeometryData) (t : Task) (st : Stage) (next : Act) → IsGeometry g → idle_answer g t ≡ None → IsStage g st (Some t) → act_at g st t ≡ Some next → IsOn g t st next
+act_word g t stage.Locking next geometry acts fits e =
     let same : next ≡ take_act (lock_bit_of g t) = cc in
     record { name = Lock (lock_number g.setup (address_of t) / 64); named = lock_row g t geometry acts; place = ap place_in same; how = inl (refl, same) }
-act_word g t (stage.Releasing o) next geometry acts e =
+act_word g t (stage.Releasing o) next geometry acts fits e =
     let same : next ≡ release_act (lock_bit_of g t) = cc in
     record { name = Lock (lock_number g.setup (address_of t) / 64); named = lock_row g t geometry acts; place = ap place_in same; how = inr (inl (o, refl, same)) }
-act_word g t stage.Looking next geometry acts e =
+act_word g t stage.Looking next geometry acts fits e =
     let load = some_mapped act.Load (l1_place_of g (address_of t)) next e in
     on_level1 g t stage.Looking load.0 next geometry load.1 (ap place_in (sym load.2)) (ap is_plain (sym load.2))
-act_word g t (stage.Reading z k) next geometry acts e =
+act_word g t (stage.Reading z k) next geometry acts fits e =
     let same : next ≡ gen_load_of g z (address_of t) = cc in
     on_generation g t (stage.Reading z k) z next acts (ap place_in same) (ap is_plain same)
-act_word g t (stage.Changing ch k) next geometry acts e =
+act_word g t (stage.Changing ch k) next geometry acts fits e =
     let store = some_mapped (λ place. act.Store place (changed_word g t ch k.word)) (l1_place_of g (address_of t)) next e in
     on_level1 g t (stage.Changing ch k) store.0 next geometry store.1 (ap place_in (sym store.2)) (ap is_plain (sym store.2))
-act_word g t (stage.Raising ch z k) next geometry acts e =
+act_word g t (stage.Raising ch z k) next geometry acts fits e =
     let same : next ≡ gen_raise_of g z (address_of t) (generation_in z k.generations) = cc in
     on_generation g t (stage.Raising ch z k) z next acts (ap place_in same) (ap is_plain same)
-act_word g t stage.Stopped next geometry acts e = absurd cc
+act_word g t (stage.Splitting z d k) next geometry acts fits e =
+    let is : IsSplittingOf g (address_of t) z d = fits.0 in
+    let n : ℕ = words_of g.setup z in
+    let w : ℕ = granule_of_task g t / 16 in
+    let at = index_at g (address_of t) is.place is.there in
+    let low : d.made < n = subst (λ (m : ℕ). d.made < m) is.words (ltb-true _ _ is.low) in
+    let own = ap (l1_index g.setup (l0_words g)) (sym (word_by_granule g.setup (address_of t))) ∙ at.1 in
+    let place = split_place g (address_of t) z d is at.0 w at.2 own (ap (λ (x : ℕ). x % n) (sym (word_by_granule g.setup (address_of t)))) in
+    let store : store_of d d.made ≡ next = let both : Some (store_of d d.made) ≡ Some next = rw is.low at e in cc in
+    on_index g t (stage.Splitting z d k) (at.0 / n * n + d.made) next (index_below g _ _ geometry (block_index g.setup (l0_words g) z w at.0 d.made own low)) (ap place_in (sym store) ∙ place) (ap is_plain (sym store))
+act_word g t (stage.Merging f k) next geometry acts fits e = merging_word g t f.first f.own f.two f.max f.gpi f.step k next geometry fits e
 
-pub act_low : (g : GeometryData) (t : Task) (st : Stage) (next : Act) → IsGeometry g → idle_answer g t ≡ None → act_at g st t ≡ Some next → place_in next < word_count g
-act_low g t st next geometry acts e = let on = act_word g t st next geometry acts e in subst (λ (p : ℕ). p < word_count g) (sym on.place) (place_below g on.name on.named)
+pub act_low : (g : GeometryData) (t : Task) (st : Stage) (next : Act) → IsGeometry g → idle_answer g t ≡ None → IsStage g st (Some t) → act_at g st t ≡ Some next → place_in next < word_count g
+act_low g t st next geometry acts fits e = let on = act_word g t st next geometry acts fits e in subst (λ (p : ℕ). p < word_count g) (sym on.place) (place_below g on.name on.named)
 
 -- ---- any act of an agent
 
@@ -127,7 +173,8 @@ agent_keeps {s = s} {c = c} {a = a} {t = t} (stage.Raising ch z k) next acting e
     subst (ActKeeps s c a t (stage.Raising ch z k)) (let same : gen_raise_of a.geometry z (address_of t) (generation_in z k.generations) ≡ next = cc in same) (raise_keeps ch z k acting)
 agent_keeps {s = s} {c = c} {a = a} {t = t} (stage.Releasing o) next acting e =
     subst (ActKeeps s c a t (stage.Releasing o)) (let same : release_act (lock_bit_of a.geometry t) ≡ next = cc in same) (release_keeps o acting)
-agent_keeps stage.Stopped next acting e = absurd cc
+agent_keeps (stage.Splitting z d k) next acting e = split_keeps z d k next acting e
+agent_keeps (stage.Merging f k) next acting e = merge_keeps f k next acting e
 
 -- ---- a caller with a next act
 
@@ -176,6 +223,6 @@ one_act g s c x t stands at next =
     let actor = actor_of g s c x t stands at next in
     subst (λ (y : Caller). Keeps g s c y t) (sym actor.is)
     (subst (λ (k : GeometryData). Keeps k s c (caller.Agent actor.agent) t) actor.geometry
-    (let low = act_low actor.agent.geometry actor.task actor.agent.stage t actor.acting.stands.shape.geometry actor.acting.acts actor.act in
+    (let low = act_low actor.agent.geometry actor.task actor.agent.stage t actor.acting.stands.shape.geometry actor.acting.acts (subst (IsStage actor.agent.geometry actor.agent.stage) actor.acting.under_way actor.acting.is.stage) actor.act in
     let kept = agent_keeps actor.agent.stage t actor.acting actor.act in
     rw actor.acting.under_way (subst (λ (n : ℕ). place_in t < n) (sym actor.acting.stands.shape.size) low, kept.0, kept.1)))

@@ -16,6 +16,7 @@ pub mod LockActs
 pub mod LoadActs
 pub mod ChangeActs
 pub mod RaiseActs
+pub mod BlockActs
 pub mod LawLemmas
 pub mod MachineLemmas
 pub mod CallLemmas
@@ -27,6 +28,7 @@ pub mod FitLemmas
 pub mod TraceLemmas
 pub mod AnswerLemmas
 pub mod PartLemmas
+pub mod FreeLemmas
 pub mod RunLemmas
 pub mod CallerLaws
 pub mod StillLemmas

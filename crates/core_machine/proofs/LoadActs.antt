@@ -65,7 +65,7 @@ use Rattle.delegate_ops.specs.Script.{granule_of_task, reads}
 -- ---- a load
 
 -- it leaves the words
-load_keeps : (s : Scene) (c : ℕ) (a : AgentData) (t : Task) (st : Stage) (place : ℕ) → IsReadable st (slice_index s.words place)
+pub load_keeps : (s : Scene) (c : ℕ) (a : AgentData) (t : Task) (st : Stage) (place : ℕ) → IsReadable st (slice_index s.words place)
     → HoldsIn a.geometry (scene_after s c (caller.Agent (took_at (at_stage a st) t st (slice_index s.words place))) s.words (made_at a.geometry c (length a.answers) st (Some t) (slice_index s.words place)))
     → ActKeeps s c a t st (act.Load place)
 load_keeps s c a t st place readable holds = (readable, rw (set-get_or s.words place 0) holds)
@@ -191,13 +191,13 @@ worn_is : (k : Generations) (o : Option Size) (given : Answer) → option_map (�
 worn_is k None given e = absurd cc
 worn_is k (Some z) given e = (z, cc)
 
-first_from : (t : Task) (found : Gpi) → needed t ≡ Some found → from_of t (first_change t) ≡ found
+pub first_from : (t : Task) (found : Gpi) → needed t ≡ Some found → from_of t (first_change t) ≡ found
 first_from (task.Delegate pa source) found needs = cc
 first_from (task.Undelegate pa source) found needs = cc
 first_from t found needs = absurd cc
 
 -- nothing comes before the first change
-first_entries : (g : GeometryData) (c k : ℕ) (t : Task) (kept : Kept) → entries_at g c k (stage.Changing (first_change t) kept) (Some t) ≡ []
+pub first_entries : (g : GeometryData) (c k : ℕ) (t : Task) (kept : Kept) → entries_at g c k (stage.Changing (first_change t) kept) (Some t) ≡ []
 first_entries g c k (task.Delegate pa source) kept = refl
 first_entries g c k t kept = refl
 

@@ -1,5 +1,5 @@
 -- Turns: what they keep.
-use Rattle.std.proofs.Common.{◌≡◌, ℕ, map, take, replicate, ◌<◌, ◌++◌, ◌∷◌, [], List, zero, suc, get_or, set, ◌+◌, ◌/◌, ◌%◌, true, false, Option, Some, None, length, refl, sym, ap, ◌∙◌, subst, arith, append_assoc, append-nil}
+use Rattle.std.proofs.Common.{◌≡◌, ℕ, take, replicate, ◌<◌, ◌++◌, ◌∷◌, [], List, zero, suc, get_or, set, ◌+◌, ◌/◌, ◌%◌, true, false, Option, Some, None, length, refl, sym, ap, ◌∙◌, subst, arith, append_assoc, append-nil}
 use Rattle.std.specs.Prelude.{slice_get}
 use Rattle.std.specs.Int.{bit_at}
 use Rattle.std.specs.List.{All, count_by}
@@ -10,14 +10,11 @@ use Rattle.std.proofs.lemmas.List.{set-get_or, length-set, replicate-append-repl
 use Rattle.std.proofs.lemmas.List.Sums.{sum_by-cons}
 use Rattle.std.proofs.lemmas.List.Elements.{All-head, All-tail, All-nil, All-weaker}
 use Rattle.std.proofs.lemmas.Nat.Bits.{bit_at-zero}
-use Rattle.std.proofs.lemmas.Option.{slice_get_within, slice_get-map, get_or_from_slice_get}
+use Rattle.std.proofs.lemmas.Option.{slice_get_within, get_or_from_slice_get}
 use Rattle.gpi_values.specs.declared.gpi.Gpi.{Gpi}
 use Rattle.gpt_descriptors.specs.declared.size.Size.{Size}
 use Rattle.gpt_descriptors.specs.Sizes.{granule_bytes}
-use Rattle.gpt_descriptors.specs.Canonical.{canonical_word}
 use Rattle.gpt_descriptors.specs.Places.{GeometryData}
-use Rattle.table_meaning.specs.Equation.{Whole, Holder, apart_by}
-use Rattle.table_meaning.proofs.EquationLemmas.{all_whole}
 use Rattle.shared_words.specs.declared.act.Act.{Act}
 use Rattle.shared_words.specs.Acts.{place_in, answer_of, after_act, said}
 use Rattle.history.specs.declared.entry.Entry.{Entry}
@@ -26,8 +23,7 @@ use Rattle.history.specs.Calls.{answered_entries}
 use Rattle.history.specs.declared.call.Task.{Task}
 use Rattle.history.specs.declared.call.Answer.{Answer}
 use Rattle.delegate_ops.specs.InnerAgents.{AgentData, idle_answers}
-use Rattle.delegate_ops.proofs.ScriptLemmas.{fresh_walked, some_mapped}
-use Rattle.core_machine.specs.InnerTables.{holder_by, AreTables}
+use Rattle.delegate_ops.proofs.ScriptLemmas.{fresh_walked}
 use Rattle.core_machine.specs.InnerOpened.{open_by, pairs_of}
 use Rattle.core_machine.specs.InnerSeen.{Sees}
 use Rattle.core_machine.specs.InnerRaised.{is_due}
@@ -46,8 +42,9 @@ use Rattle.core_machine.proofs.ListLemmas.{one}
 use Rattle.core_machine.proofs.ToldLemmas.{idle_entries}
 use Rattle.core_machine.specs.InnerScene.{Scene}
 use Rattle.core_machine.proofs.LawLemmas.{one_act}
-use Rattle.core_machine.specs.Facts.{IsCounted}
-use Rattle.core_machine.specs.Scenarios.{map_at, round_turns}
+use Rattle.core_machine.proofs.OpeningLemmas.{opening_tables}
+use Rattle.core_machine.specs.Facts.{IsCounted, map_after}
+use Rattle.core_machine.specs.Scenarios.{round_turns}
 use Rattle.delegate_ops.specs.InnerScript.{HasWalked}
 
 -- ---- one turn
@@ -148,10 +145,6 @@ fresh_sees : (g : GeometryData) (m : ℕ → Gpi) (words : List ℕ) (x : Caller
 fresh_sees g m words (caller.Agent a) is = subst (λ (b : AgentData). Sees m words (caller.Agent b)) (sym is.0) tt
 fresh_sees g m words (caller.Cpu looks) is = tt
 
-fresh_whole : (g : GeometryData) (x : Caller) → IsFresh g x → (holder_by x).step ≡ Whole
-fresh_whole g (caller.Agent a) is = ap (λ (b : AgentData). (holder_by (caller.Agent b)).step) is.0
-fresh_whole g (caller.Cpu looks) is = refl
-
 fresh_due : (g : GeometryData) (y : Size) (region : ℕ) (x : Caller) → IsFresh g x → is_due y region x ≡ false
 fresh_due g y region (caller.Agent a) is = ap (λ (b : AgentData). is_due y region (caller.Agent b)) is.0
 fresh_due g y region (caller.Cpu looks) is = refl
@@ -166,20 +159,6 @@ fresh_counted g c k (caller.Cpu looks) u given is answered = absurd cc
 fresh_at : (g : GeometryData) (callers : List Caller) (c : ℕ) (x : Caller) → All (IsFresh g) callers → slice_get callers c ≡ Some x → IsFresh g x
 fresh_at g callers c x fresh_all at = subst (IsFresh g) (get_or_from_slice_get callers c x x at) (fresh_all c x (slice_get_within callers c x at))
 
--- no L1 word is apart from a granule
-none_apart : (g : GeometryData) (callers : List Caller) (w : ℕ) → All (IsFresh g) callers → apart_by g.setup (map holder_by callers) w ≡ None
-none_apart g callers w fresh_all =
-    all_whole g.setup (map holder_by callers) w
-    (λ d h there.
-    let own = some_mapped holder_by (slice_get callers d) h (sym (slice_get-map holder_by callers d) ∙ there) in
-    subst (λ (y : Holder). y.step ≡ Whole) own.2 (fresh_whole g own.0 (fresh_at g callers d own.0 fresh_all own.1)))
-
-opening_tables : (g : GeometryData) (first : List Gpi) (callers : List Caller) (words : List ℕ) → All (IsFresh g) callers → AreStarting g first words → AreTables g words callers (map_at first)
-opening_tables g first callers words fresh_all starting = record {
-  level1 = λ w i index. starting.canonical w i index ∙ ap (λ (o : Option ℕ). canonical_word g.setup (map_at first) o w) (sym (none_apart g callers w fresh_all));
-  blocks = starting.blocks;
-}
-
 pub opening_invariant : (g : GeometryData) (first : List Gpi) (callers : List Caller) (words : List ℕ) → All (IsFresh g) callers → AreStarting g first words → Invariant g first words callers []
 opening_invariant g first callers words fresh_all starting = record {
   shape = record {
@@ -193,7 +172,7 @@ opening_invariant g first callers words fresh_all starting = record {
   locks = λ n below.
       ap (λ (word : ℕ). bit_at word (n % 64)) (starting.free (n / 64) (omega (arith, below))) ∙ bit_at-zero (n % 64)
       ∙ sym (none_holds n callers (All-weaker (IsFresh g) (λ x. holds n x ≡ false) (fresh_holds g n) callers fresh_all));
-  seen = λ c x at. fresh_sees g (map_at first) words x (fresh_at g callers c x fresh_all at);
+  seen = λ c x at. fresh_sees g (map_after first []) words x (fresh_at g callers c x fresh_all at);
   generations = λ y region within.
       omega (arith, starting.generations y region within, count_none (is_due y region) callers (λ d x at. fresh_due g y region x (fresh_at g callers d x fresh_all at)));
   undisturbed = undisturbed_empty g.setup;

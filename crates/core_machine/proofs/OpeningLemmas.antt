@@ -1,50 +1,51 @@
--- The words before the first act: built tables among them mean the region map.
-use Rattle.std.proofs.Common.{◌≡◌, ℕ, [], ◌∷◌, mul_comm, ◌+◌, ◌*◌, ◌/◌, ◌%◌, ◌^◌, ◌<◌, List, map, length, Bool, true, false, cond, Option, Some, None, refl, sym, ap, ◌∙◌, subst, arith}
+-- The words before the first act: built tables among them mean the region map, and no caller is at work on them.
+use Rattle.std.proofs.Common.{◌≡◌, ℕ, [], mul_comm, ◌*◌, ◌/◌, ◌<◌, List, map, length, false, Option, Some, None, refl, sym, ap, ◌∙◌, subst, arith}
 use Rattle.std.specs.Prelude.{slice_get, slice_index}
-use Rattle.std.specs.List.{All, flat_map, range_with_len}
-use Rattle.std.proofs.Math.Nat.{div-div-eq-div-mul}
-use Rattle.std.proofs.lemmas.Bool.{and_parts}
-use Rattle.std.proofs.lemmas.List.Elements.{All-nil, All-append, All-map}
-use Rattle.std.proofs.lemmas.List.Concat.{flat_map-cons}
+use Rattle.std.specs.List.{All, range_with_len}
+use Rattle.std.proofs.Math.Nat.{div-div-eq-div-mul, div-lt_iff_lt-mul}
 use Rattle.std.proofs.lemmas.List.FromFn.{length-map-range_with_len, get_or-map-range_with_len}
-use Rattle.std.proofs.lemmas.Option.{get_or_from_slice_get, slice_get-get_or}
+use Rattle.std.proofs.lemmas.Nat.{div_below}
+use Rattle.std.proofs.lemmas.Option.{get_or_from_slice_get, slice_get-map, slice_get_within}
 use Rattle.gpi_values.specs.declared.gpi.Gpi.{Gpi}
-use Rattle.gpi_values.proofs.ValueLemmas.{value_low}
-use Rattle.gpt_descriptors.specs.declared.size.Size.{Size}
+use Rattle.gpi_values.specs.declared.gpi.Gpi.TheVariants as gpi
 use Rattle.gpt_descriptors.specs.declared.size.Size.TheVariants as size
-use Rattle.gpt_descriptors.specs.declared.entry.L1Entry.TheVariants as l1
-use Rattle.gpt_descriptors.specs.Sizes.{SetupData, granule_bytes, word_bytes, words_of, table_words, region_bytes, space_granules, is_permitted}
-use Rattle.gpt_descriptors.specs.Entries.{l0_entry, l1_entry, word_gpi}
-use Rattle.gpt_descriptors.specs.Canonical.{is_one_block, canonical_with, canonical_word}
+use Rattle.gpt_descriptors.specs.Sizes.{SetupData, granule_bytes, word_bytes, words_of, table_words, space_words, space_granules}
+use Rattle.gpt_descriptors.specs.Entries.{l0_entry}
+use Rattle.gpt_descriptors.specs.Canonical.{canonical_word}
 use Rattle.gpt_descriptors.specs.Level0.{l1_index}
-use Rattle.gpt_descriptors.specs.Places.{GeometryData, IsGeometry, Lock, Generation, Duty, Level1, Line, place_of, l0_words, l1_words, l1_index_of, block_gpi_in}
-use Rattle.gpt_descriptors.proofs.SizeLemmas.{word_is}
-use Rattle.gpt_descriptors.proofs.PlaceLemmas.{index_within, region_of_word}
-use Rattle.gpt_descriptors.proofs.MeaningLemmas.{contiguous_again, packed_entry, canonical_meaning}
-use Rattle.gpt_descriptors.proofs.CanonicalLemmas.{canonical_choice}
-use Rattle.gpt_descriptors.proofs.PackedLemmas.{packed_below}
+use Rattle.gpt_descriptors.specs.Places.{GeometryData, IsGeometry, Lock, Generation, Duty, Level1, Line, place_of, l0_words, l1_words, block_gpi_in}
+use Rattle.gpt_descriptors.proofs.SizeLemmas.{word_is, table_is}
+use Rattle.gpt_descriptors.proofs.CanonicalLemmas.{words_some}
+use Rattle.table_meaning.specs.Meaning.{BlocksMean}
+use Rattle.table_meaning.specs.Equation.{Holder, Whole}
+use Rattle.table_meaning.proofs.ChangeLemmas.{canonical_local}
+use Rattle.table_meaning.proofs.EquationLemmas.{all_whole}
 use Rattle.region_plan.specs.declared.region.Region.{Region}
-use Rattle.region_plan.specs.Regions.{region_map, region_l0, tabled_below}
+use Rattle.region_plan.specs.Regions.{region_map, region_l0}
 use Rattle.region_plan.specs.Refusals.{refusal}
-use Rattle.table_build.specs.Built.{table_of, region_l1, is_bad_base}
-use Rattle.table_build.proofs.MeaningLemmas.{built_word, built_block, built_fills}
+use Rattle.table_build.specs.Built.{region_l1, is_bad_base}
+use Rattle.table_build.proofs.MeaningLemmas.{built_word, built_block}
 use Rattle.shared_words.specs.Start.{start_words}
 use Rattle.shared_words.proofs.StartLemmas.{start_count, start_named}
-use Rattle.delegate_ops.specs.Deciding.{granule_place}
-use Rattle.core_machine.specs.InnerOpening.{AreStarting}
-use Rattle.core_machine.specs.InnerTables.{table_gpi, table_word, MeansMap}
+use Rattle.delegate_ops.specs.InnerAgents.{AgentData}
+use Rattle.delegate_ops.proofs.ScriptLemmas.{some_mapped}
+use Rattle.core_machine.specs.declared.caller.Caller.{Caller}
+use Rattle.core_machine.specs.declared.caller.Caller.TheVariants as caller
+use Rattle.core_machine.specs.Scenarios.{map_at}
+use Rattle.core_machine.specs.Facts.{map_after}
+use Rattle.core_machine.specs.InnerOpening.{IsFresh, AreStarting}
+use Rattle.core_machine.specs.InnerTables.{table_word, holder_by, AreTables}
 use Rattle.core_machine.proofs.TableLemmas.{granule_back}
 use Rattle.core_machine.proofs.ChangeLemmas.{index_inside, index_below}
 
 -- ---- lists
 
-get_mapped : {A : Type 0} (f : ℕ → A) (a n k : ℕ) → k < n → slice_get (map f (range_with_len a n)) k ≡ Some (f (a + k))
-get_mapped f a n k within =
-    slice_get-get_or (map f (range_with_len a n)) k (f a) (subst (λ (m : ℕ). k < m) (sym (length-map-range_with_len f a n)) within)
-    ∙ ap (λ (x : _). Some x) (get_or-map-range_with_len f a n k (a + k) (f a) within refl)
-
 index_of : (xs : List ℕ) (i x : ℕ) → slice_get xs i ≡ Some x → slice_index xs i ≡ x
 index_of xs i x at = get_or_from_slice_get xs i x 0 at
+
+-- a map as a list gives its granules
+first_at : (m : ℕ → Gpi) (n k : ℕ) → k < n → map_at (map m (range_with_len 0 n)) k ≡ m k
+first_at m n k within = get_or-map-range_with_len m 0 n k k gpi.Any within (omega arith)
 
 -- ---- numbers of granules
 
@@ -53,117 +54,28 @@ word_back s granule =
     ap (λ (n : ℕ). granule * granule_bytes s / n) (word_is s ∙ mul_comm 16 (granule_bytes s))
     ∙ sym (div-div-eq-div-mul (granule * granule_bytes s) (granule_bytes s) 16) ∙ ap (λ (n : ℕ). n / 16) (granule_back s granule)
 
--- ---- the built words
-
--- the largest size that was chosen is permitted
-abbrev Permits : SetupData → Option Size → Type 0
-Permits s None = Unit {0}
-Permits s (Some z) = is_permitted s.max z ≡ true
-
-block_permits : (s : SetupData) (m : ℕ → Gpi) (z : Size) (b : ℕ) → is_one_block s m z b ≡ true → is_permitted s.max z ≡ true
-unfolding is_one_block
-block_permits s m z b one = (and_parts _ _ one).0
-
-choice_permits : (s : SetupData) (a b c : Bool) → (a ≡ true → is_permitted s.max size.FiveTwelve ≡ true) → (b ≡ true → is_permitted s.max size.ThirtyTwo ≡ true)
-    → (c ≡ true → is_permitted s.max size.Two ≡ true)
-    → Permits s (cond a (Some size.FiveTwelve) (cond b (Some size.ThirtyTwo) (cond c (Some size.Two) None)))
-choice_permits s true b c largest larger two = largest refl
-choice_permits s false true c largest larger two = larger refl
-choice_permits s false false true largest larger two = two refl
-choice_permits s false false false largest larger two = tt
-
-with_permits : (s : SetupData) (m : ℕ → Gpi) (w : ℕ) (o : Option Size) (z : Size) (gpi : Gpi) → Permits s o → l1_entry (canonical_with m w o) ≡ Some (l1.Contig z gpi) → is_permitted s.max z ≡ true
-with_permits s m w None z gpi permits read = absurd (let both = sym (packed_entry m (16 * w)) ∙ read in cc)
-with_permits s m w (Some y) z gpi permits read =
-    let both = sym (contiguous_again y (m (16 * w))) ∙ read in
-    subst (λ (x : Size). is_permitted s.max x ≡ true) (let same : y ≡ z = cc in same) permits
-
-with_below : (m : ℕ → Gpi) (w : ℕ) (o : Option Size) → canonical_with m w o < 2 ^ 64
-with_below m w None = packed_below m (16 * w) 16
-with_below m w (Some size.Two) = omega (arith, value_low (m (16 * w)))
-with_below m w (Some size.ThirtyTwo) = omega (arith, value_low (m (16 * w)))
-with_below m w (Some size.FiveTwelve) = omega (arith, value_low (m (16 * w)))
-
--- a word has 64 bits, and as a contiguous one is of a permitted size
-record IsFit (s : SetupData) (word : ℕ) : Type 0 where
-  below : word < 2 ^ 64
-  permits : (z : Size) (gpi : Gpi) → l1_entry word ≡ Some (l1.Contig z gpi) → is_permitted s.max z ≡ true
-
-canonical_fit : (s : SetupData) (m : ℕ → Gpi) (w : ℕ) → IsFit s (canonical_word s m None w)
-canonical_fit s m w =
-    let permits = choice_permits s (is_one_block s m size.FiveTwelve (w / words_of s size.FiveTwelve)) (is_one_block s m size.ThirtyTwo (w / words_of s size.ThirtyTwo))
-    (is_one_block s m size.Two (w / words_of s size.Two)) (block_permits s m size.FiveTwelve _) (block_permits s m size.ThirtyTwo _) (block_permits s m size.Two _) in
-    rw (canonical_choice s m w) (record { below = with_below m w _; permits = λ z gpi read. with_permits s m w _ z gpi permits read })
-
-tables_fit : (s : SetupData) (regions : List Region) (tabled : List ℕ) → All (IsFit s) (flat_map (table_of s regions) tabled)
-tables_fit s regions [] = All-nil (IsFit s)
-tables_fit s regions (q ∷ qs) =
-    rw flat_map-cons
-    (All-append (IsFit s) (table_of s regions q) (flat_map (table_of s regions) qs)
-    (All-map (IsFit s) (canonical_word s (region_map s regions) None) (range_with_len (q * table_words s) (table_words s)) (λ k d within. canonical_fit s (region_map s regions) _))
-    (tables_fit s regions qs))
-
-built_fit : (s : SetupData) (regions : List Region) (i : ℕ) → i < length (region_l1 s regions) → IsFit s (slice_index (region_l1 s regions) i)
-built_fit s regions i within = tables_fit s regions (tabled_below regions s.gigabytes) i 0 within
+-- the 512 MB around a word of the space are in the space
+in_space : (s : SetupData) (w k : ℕ) → w < space_words s → k / 16 / words_of s size.FiveTwelve ≡ w / words_of s size.FiveTwelve → k < space_granules s
+in_space s w k inside same =
+    let n : ℕ = words_of s size.FiveTwelve in
+    let whole : s.gigabytes * table_words s ≡ s.gigabytes * 2 * n = ap (λ (t : ℕ). s.gigabytes * t) (table_is s) ∙ grind arith in
+    let block : w / n < s.gigabytes * 2 = div_below w n (s.gigabytes * 2) (words_some s size.FiveTwelve) (omega (arith, inside, whole)) in
+    let row : k / 16 < s.gigabytes * 2 * n = (div-lt_iff_lt-mul (words_some s size.FiveTwelve)).0 (subst (λ (b : ℕ). b < s.gigabytes * 2) (sym same) block) in
+    omega (arith, row, whole)
 
 -- ---- the starting words
 
 level1_word : (g : GeometryData) (words : List ℕ) (i : ℕ) → length words ≡ l1_words g → i < l1_words g → table_word g (start_words g words) i ≡ slice_index words i
 level1_word g words i size within = index_of (start_words g words) (place_of g (Level1 i)) (slice_index words i) (start_named g words (Level1 i) size within)
 
--- what a granule's tables say, by its index among the L1 words
-granule_means : (g : GeometryData) (regions : List Region) (granule : ℕ) (o : Option ℕ) → IsGeometry g → l0_words g ≡ region_l0 g.setup regions
-    → refusal g.setup regions ≡ None → is_bad_base g.setup regions ≡ false → length (region_l1 g.setup regions) ≡ l1_words g → granule < space_granules g.setup
-    → l1_index_of g (granule * granule_bytes g.setup) ≡ o
-    → table_gpi g (start_words g (region_l1 g.setup regions)) (granule * granule_bytes g.setup) ≡ Some (region_map g.setup regions granule)
-granule_means g regions granule None geometry level0 accepted good size within index =
+built_blocks : (g : GeometryData) (regions : List Region) → l0_words g ≡ region_l0 g.setup regions → refusal g.setup regions ≡ None → is_bad_base g.setup regions ≡ false
+    → BlocksMean g.setup (l0_words g) (map_at (map (region_map g.setup regions) (range_with_len 0 (space_granules g.setup))))
+built_blocks g regions level0 accepted good granule within at =
     let s = g.setup in
-    let pa = granule * granule_bytes s in
-    let none : l1_index s (region_l0 s regions) (granule / 16) ≡ None =
-    ap (λ (words : List ℕ). l1_index s words (granule / 16)) (sym level0) ∙ ap (l1_index s (l0_words g)) (sym (word_back s granule)) ∙ index in
-    let region : pa / region_bytes ≡ granule / 16 / table_words s = sym (region_of_word s pa) ∙ ap (λ (n : ℕ). n / table_words s) (word_back s granule) in
-    rw index
-    (ap (λ (words : List ℕ). block_gpi_in (l0_entry (slice_index words (pa / region_bytes)))) level0
-    ∙ ap (λ (q : ℕ). block_gpi_in (l0_entry (slice_index (region_l0 s regions) q))) region
-    ∙ built_block s regions granule accepted good within none)
-granule_means g regions granule (Some i) geometry level0 accepted good size within index =
-    let s = g.setup in
-    let pa = granule * granule_bytes s in
-    let some : l1_index s (region_l0 s regions) (granule / 16) ≡ Some i =
-    ap (λ (words : List ℕ). l1_index s words (granule / 16)) (sym level0) ∙ ap (l1_index s (l0_words g)) (sym (word_back s granule)) ∙ index in
-    let word : slice_index (region_l1 s regions) i ≡ canonical_word s (region_map s regions) None (granule / 16) =
-    index_of (region_l1 s regions) i _ (built_word s regions granule i accepted good within some) in
-    let there : table_word g (start_words g (region_l1 s regions)) i ≡ canonical_word s (region_map s regions) None (granule / 16) =
-    level1_word g (region_l1 s regions) i size (index_within g pa i geometry index) ∙ word in
-    let place : granule_place g pa ≡ granule % 16 = ap (λ (n : ℕ). n % 16) (granule_back s granule) in
-    let whole : 16 * (granule / 16) + granule % 16 ≡ granule = omega arith in
-    rw index
-    (ap (λ (v : ℕ). word_gpi v (granule_place g pa)) there
-    ∙ ap (word_gpi (canonical_word s (region_map s regions) None (granule / 16))) place
-    ∙ canonical_meaning s (region_map s regions) None (granule / 16) (granule % 16) (omega arith)
-    ∙ ap (λ (n : ℕ). Some (region_map s regions n)) whole)
-
-pub built_means : (g : GeometryData) (regions : List Region) → IsGeometry g → l0_words g ≡ region_l0 g.setup regions
-    → refusal g.setup regions ≡ None → is_bad_base g.setup regions ≡ false → length (region_l1 g.setup regions) ≡ l1_words g
-    → MeansMap g (start_words g (region_l1 g.setup regions)) (map (region_map g.setup regions) (range_with_len 0 (space_granules g.setup)))
-built_means g regions geometry level0 accepted good size = record {
-  meaning = λ granule within.
-      granule_means g regions granule (l1_index_of g (granule * granule_bytes g.setup)) geometry level0 accepted good size within refl
-      ∙ sym (get_mapped (region_map g.setup regions) 0 (space_granules g.setup) granule within ∙ ap (λ (n : ℕ). Some (region_map g.setup regions n)) (let same : 0 + granule ≡ granule = omega arith in same));
-  fills = λ i j z gpi i_in j_in entry block.
-      let words = region_l1 g.setup regions in
-      let here = level1_word g words i size i_in in
-      let there = level1_word g words j size j_in in
-      there ∙ index_of words j (slice_index words i)
-      (built_fills g.setup regions i j (slice_index words i) z gpi (slice_get-get_or words i 0 (subst (λ (n : ℕ). i < n) (sym size) i_in)) (ap l1_entry (sym here) ∙ entry) block)
-      ∙ sym here;
-  permitted = λ i z gpi i_in entry.
-      let words = region_l1 g.setup regions in
-      (built_fit g.setup regions i (subst (λ (n : ℕ). i < n) (sym size) i_in)).permits z gpi (ap l1_entry (sym (level1_word g words i size i_in)) ∙ entry);
-  bounded = λ i i_in.
-      let words = region_l1 g.setup regions in
-      subst (λ (n : ℕ). n < 2 ^ 64) (sym (level1_word g words i size i_in)) (built_fit g.setup regions i (subst (λ (n : ℕ). i < n) (sym size) i_in)).below;
-}
+    let none : l1_index s (region_l0 s regions) (granule / 16) ≡ None = ap (λ (words : List ℕ). l1_index s words (granule / 16)) (sym level0) ∙ at in
+    ap (λ (words : List ℕ). block_gpi_in (l0_entry (slice_index words (granule / 16 / table_words s)))) level0
+    ∙ built_block s regions granule accepted good within none
+    ∙ ap (λ (v : Gpi). Some v) (sym (first_at (region_map s regions) (space_granules s) granule within))
 
 built_canonical : (g : GeometryData) (regions : List Region) (w i : ℕ) → IsGeometry g → l0_words g ≡ region_l0 g.setup regions
     → refusal g.setup regions ≡ None → is_bad_base g.setup regions ≡ false → length (region_l1 g.setup regions) ≡ l1_words g → l1_index g.setup (l0_words g) w ≡ Some i
@@ -177,6 +89,15 @@ built_canonical g regions w i geometry level0 accepted good size at =
     ∙ index_of (region_l1 s regions) i (canonical_word s (region_map s regions) None (16 * w / 16)) (built_word s regions (16 * w) i accepted good inside some)
     ∙ ap (canonical_word s (region_map s regions) None) row
 
+built_first : (g : GeometryData) (regions : List Region) (w i : ℕ) → IsGeometry g → l0_words g ≡ region_l0 g.setup regions
+    → refusal g.setup regions ≡ None → is_bad_base g.setup regions ≡ false → length (region_l1 g.setup regions) ≡ l1_words g → l1_index g.setup (l0_words g) w ≡ Some i
+    → table_word g (start_words g (region_l1 g.setup regions)) i ≡ canonical_word g.setup (map_at (map (region_map g.setup regions) (range_with_len 0 (space_granules g.setup)))) None w
+built_first g regions w i geometry level0 accepted good size at =
+    let s = g.setup in
+    built_canonical g regions w i geometry level0 accepted good size at
+    ∙ canonical_local s (region_map s regions) (map_at (map (region_map s regions) (range_with_len 0 (space_granules s)))) None w
+    (λ k around. sym (first_at (region_map s regions) (space_granules s) k (in_space s w k (index_inside g w i geometry at) around)))
+
 -- all that holds before the first act
 pub built_starts : (g : GeometryData) (regions : List Region) → IsGeometry g → l0_words g ≡ region_l0 g.setup regions
     → refusal g.setup regions ≡ None → is_bad_base g.setup regions ≡ false → length (region_l1 g.setup regions) ≡ l1_words g
@@ -186,14 +107,35 @@ built_starts g regions geometry level0 accepted good size = record {
   size = start_count g (region_l1 g.setup regions) size;
   free = λ n low. index_of (start_words g (region_l1 g.setup regions)) (place_of g (Lock n)) 0 (start_named g (region_l1 g.setup regions) (Lock n) size low);
   granules = length-map-range_with_len (region_map g.setup regions) 0 (space_granules g.setup);
-  tables = built_means g regions geometry level0 accepted good size;
-  canonical = (
-    region_map g.setup regions,
-    (λ granule within. get_mapped (region_map g.setup regions) 0 (space_granules g.setup) granule within ∙ ap (λ (n : ℕ). Some (region_map g.setup regions n)) (let same : 0 + granule ≡ granule = omega arith in same)),
-    (λ w i at. built_canonical g regions w i geometry level0 accepted good size at),
-  );
+  canonical = λ w i at. built_first g regions w i geometry level0 accepted good size at;
+  blocks = built_blocks g regions level0 accepted good;
   duty = λ cpu low. index_of (start_words g (region_l1 g.setup regions)) (place_of g (Duty cpu)) 0 (start_named g (region_l1 g.setup regions) (Duty cpu) size low);
   lines = λ i low. index_of (start_words g (region_l1 g.setup regions)) (place_of g (Line i)) 0 (start_named g (region_l1 g.setup regions) (Line i) size low);
   generations = λ y region within.
       index_of (start_words g (region_l1 g.setup regions)) (place_of g (Generation y region)) g.setup.first (start_named g (region_l1 g.setup regions) (Generation y region) size within);
+}
+
+-- ---- the callers before the first act
+
+fresh_whole : (g : GeometryData) (x : Caller) → IsFresh g x → (holder_by x).step ≡ Whole
+fresh_whole g (caller.Agent a) is = ap (λ (b : AgentData). (holder_by (caller.Agent b)).step) is.0
+fresh_whole g (caller.Cpu looks) is = refl
+
+-- the caller of a holder
+pub holder_at : (callers : List Caller) (d : ℕ) (h : Holder) → slice_get (map holder_by callers) d ≡ Some h → (x : Caller) × (slice_get callers d ≡ Some x) × (holder_by x ≡ h)
+holder_at callers d h at = some_mapped holder_by (slice_get callers d) h (sym (slice_get-map holder_by callers d) ∙ at)
+
+fresh_holder : (g : GeometryData) (callers : List Caller) (d : ℕ) (h : Holder) → All (IsFresh g) callers → slice_get (map holder_by callers) d ≡ Some h → h.step ≡ Whole
+fresh_holder g callers d h fresh_all at =
+    let own = holder_at callers d h at in
+    let is : IsFresh g own.0 = subst (IsFresh g) (get_or_from_slice_get callers d own.0 own.0 own.1) (fresh_all d own.0 (slice_get_within callers d own.0 own.1)) in
+    ap (λ (x : Holder). x.step) (sym own.2) ∙ fresh_whole g own.0 is
+
+-- with no caller at work each word is the canonical one
+pub opening_tables : (g : GeometryData) (first : List Gpi) (callers : List Caller) (words : List ℕ) → All (IsFresh g) callers → AreStarting g first words → AreTables g words callers (map_after first [])
+opening_tables g first callers words fresh_all starting = record {
+  level1 = λ w i at.
+      starting.canonical w i at
+      ∙ ap (λ (o : Option ℕ). canonical_word g.setup (map_at first) o w) (sym (all_whole g.setup (map holder_by callers) w (λ d h there. fresh_holder g callers d h fresh_all there)));
+  blocks = starting.blocks;
 }

@@ -1,5 +1,5 @@
 -- The raises of the generations after a change.
-use Rattle.std.proofs.Common.{◌≡◌, ◌≢◌, ℕ, ◌+◌, ◌*◌, ◌/◌, ◌<◌, ◌⊎◌, ◌++◌, ◌∷◌, [], List, true, false, not, ◌&&◌, Some, length, set, refl, sym, ap, ◌∙◌, subst, arith, inl, inr, append-nil, None}
+use Rattle.std.proofs.Common.{◌≡◌, ◌≢◌, ℕ, ◌+◌, ◌*◌, ◌/◌, ◌<◌, ◌⊎◌, ◌++◌, ◌∷◌, [], List, true, false, not, ◌&&◌, Some, length, set, refl, sym, ap, ◌∙◌, subst, arith, inl, inr, append-nil, None, Option}
 use Rattle.std.proofs.lemmas.Bool.{cases_eq, eq-eqb, ne_eqb}
 use Rattle.std.specs.Prelude.{slice_index}
 use Rattle.std.proofs.lemmas.List.{get_or-set_same}
@@ -7,8 +7,24 @@ use Rattle.gpt_descriptors.specs.declared.size.Size.{Size}
 use Rattle.gpt_descriptors.specs.declared.size.Size.TheVariants as size
 use Rattle.gpt_descriptors.specs.declared.size.Generations.{Generations}
 use Rattle.gpt_descriptors.specs.Sizes.{granule_bytes, size_bytes}
-use Rattle.gpt_descriptors.specs.Places.{GeometryData, Generation, Level1, gen_place_of, blocks_in_region}
-use Rattle.gpt_descriptors.proofs.PlaceLemmas.{index_within, generation_named}
+use Rattle.gpi_values.specs.declared.gpi.Gpi.{Gpi}
+use Rattle.gpt_descriptors.specs.Sizes.{words_of}
+use Rattle.gpt_descriptors.specs.Fields.{equal_gpi}
+use Rattle.gpt_descriptors.specs.Canonical.{largest_block}
+use Rattle.gpt_descriptors.specs.Places.{GeometryData, Generation, Level1, place_of, l1_index_of, gen_place_of, blocks_in_region}
+use Rattle.gpt_descriptors.proofs.PlaceLemmas.{generation_named}
+use Rattle.shared_words.specs.declared.act.Act.{Act}
+use Rattle.table_meaning.specs.declared.fusing.Fusing.{Fusing}
+use Rattle.table_meaning.specs.declared.fusing.Fusing.TheVariants.{Testing, Storing, Ended}
+use Rattle.table_meaning.specs.Fusing.{begun}
+use Rattle.table_meaning.specs.Equation.{Step, Whole, apart_by, AreWords}
+use Rattle.table_meaning.specs.Facts.{Facts, Keeps, Merges, step_of, merging_step}
+use Rattle.table_meaning.proofs.FactLemmas.{merges}
+use Rattle.table_meaning.proofs.TestLemmas.{finds_largest}
+use Rattle.gpt_descriptors.proofs.PackedLemmas.{equal_found, equal_none}
+use Rattle.table_meaning.proofs.StepLemmas.{load_words, no_merge, begun_unstored}
+use Rattle.fuse.specs.Merging.{FuseData}
+use Rattle.fuse.specs.Merging as fuse
 use Rattle.invalidate.specs.Generations.{gen_raise_of}
 use Rattle.history.specs.declared.call.Task.{Task}
 use Rattle.history.specs.declared.call.Task.TheVariants as task
@@ -23,7 +39,7 @@ use Rattle.delegate_ops.specs.declared.stage.Stage.{Stage}
 use Rattle.delegate_ops.specs.declared.stage.Stage.TheVariants as stage
 use Rattle.delegate_ops.specs.Deciding.{address_of, generation_in}
 use Rattle.delegate_ops.specs.Changing.{from_of, to_of, raised_at}
-use Rattle.delegate_ops.specs.InnerAgents.{AgentData, IsChangeOf, IsStage, task_of, kept_raised, raised_stage, goes_to}
+use Rattle.delegate_ops.specs.InnerAgents.{AgentData, IsChangeOf, IsStage, number_of, task_of, kept_raised, merging_stage, merged_stage, raised_stage, goes_to}
 use Rattle.delegate_ops.proofs.AgentLemmas.{at_stage}
 use Rattle.core_machine.specs.declared.caller.Caller.TheVariants as caller
 use Rattle.core_machine.specs.InnerLocks.{is_inside}
@@ -34,16 +50,19 @@ use Rattle.core_machine.specs.InnerCounted.{coming_at}
 use Rattle.core_machine.specs.InnerInvariant.{IsMade}
 use Rattle.core_machine.specs.InnerScene.{Scene, state_in, HoldsIn, scene_after}
 use Rattle.core_machine.proofs.ListLemmas.{one}
-use Rattle.core_machine.proofs.WordLemmas.{Writes, writes_one, tables_left, generation_left, index_at}
+use Rattle.core_machine.specs.InnerTables.{known_at, AreTables}
+use Rattle.core_machine.proofs.StepLemmas.{map_in}
+use Rattle.core_machine.proofs.HolderLemmas.{holders_of, holder_at, alone_there, tables_after, tables_stay}
+use Rattle.core_machine.proofs.WordLemmas.{Writes, writes_one, words_left, generation_left}
 use Rattle.core_machine.proofs.OthersLemmas.{region_at}
 use Rattle.core_machine.proofs.OpenedLemmas.{opened_settle, open_here}
 use Rattle.core_machine.proofs.CountedLemmas.{done_counted}
-use Rattle.core_machine.proofs.ActLemmas.{Acting, inside_of, generation_below, closed_of, counts_of, seen_of, opened_same, goes_keeps}
+use Rattle.core_machine.proofs.ActLemmas.{Acting, inside_of, lock_of_task, other_lock, others_left, generation_below, closed_of, counts_of, seen_of, opened_same, goes_keeps}
 use Rattle.core_machine.proofs.LockActs.{ActKeeps}
 use Rattle.core_machine.proofs.LoadActs.{counts_from}
 use Rattle.core_machine.specs.Facts.{IsCounted, generation_word}
 use Rattle.delegate_ops.specs.InnerEntries.{entries_at, made_at}
-use Rattle.delegate_ops.specs.Script.{granule_of_task}
+use Rattle.delegate_ops.specs.Script.{granule_of_task, entries_of}
 
 -- ---- what a holder sees after its raise
 
@@ -69,21 +88,16 @@ writes_raise : {s : Scene} {c : ℕ} {a : AgentData} {t : Task} {st : Stage} (ac
 writes_raise {s = s} {a = a} {t = t} acting z v = writes_one a.geometry s.words (Generation z (address_of t / size_bytes z)) v (generation_named a.geometry z (address_of t) (inside_of acting))
 
 sees_raised : {s : Scene} {c : ℕ} {a : AgentData} {t : Task} (ch : Change) (z : Size) (k : Kept) (acting : Acting s c a t (stage.Raising ch z k))
-    → SeesAll a.geometry (set s.words (gen_place_of a.geometry z (address_of t)) (generation_in z k.generations + 1)) t (to_of t ch) (kept_raised z k)
+    → SeesAll a.geometry (map_in s) (set s.words (gen_place_of a.geometry z (address_of t)) (generation_in z k.generations + 1)) t (to_of t ch) (kept_raised z k)
 sees_raised {s = s} {a = a} {t = t} ch z k acting =
     let g = a.geometry in
     let pa = address_of t in
     let after = set s.words (gen_place_of g z pa) (generation_in z k.generations + 1) in
     let writes = writes_raise acting z (generation_in z k.generations + 1) in
-    let sees : SeesAll g s.words t (to_of t ch) k = seen_of acting in
+    let sees : SeesAll g (map_in s) s.words t (to_of t ch) k = seen_of acting in
     record {
-      word = record {
-        stands = λ place there.
-            let at = index_at g pa place there in
-            ap (slice_index after) at.2 ∙ writes.beside (Level1 at.0) (index_within g pa at.0 acting.stands.shape.geometry at.1) (λ same. cc) ∙ ap (slice_index s.words) (sym at.2) ∙ sees.word.stands place there;
-        gives = sees.word.gives;
-      };
-      granules = sees.granules;
+      known = sees.known;
+      gives = sees.gives;
       generations = λ y.
           elim (size_cases y z) [
             | inl same ↦
@@ -130,7 +144,7 @@ raised_sum {s = s} {a = a} {t = t} ch z k next acting owes y region within =
     let block = address_of t / size_bytes z in
     let v = generation_in z k.generations + 1 in
     let writes = writes_raise acting z v in
-    let sees : SeesAll g s.words t (to_of t ch) k = seen_of acting in
+    let sees : SeesAll g (map_in s) s.words t (to_of t ch) k = seen_of acting in
     let around : region_of (granule_bytes g.setup) z (granule_of_task g t) ≡ block = region_at g z t acting.acts in
     elim (size_cases y z) [
       | inl same ↦
@@ -164,11 +178,11 @@ raise_quietly {s = s} {a = a} {t = t} ch z k next acting owes made =
       stays = refl;
       made = made;
       writes = writes;
-      block = (address_of t, refl, refl);
       no_lock = refl;
       idle = refl;
       entry = tt;
-      tables = tables_left writes (state_in s).map refl acting.stands.shape.geometry acting.stands.tables;
+      tables = tables_stay acting refl (stage.Raising ch next (kept_raised z k)) refl writes refl;
+      others = others_left acting (lock_of_task a t) writes (address_of t, refl, refl) (other_lock acting refl);
       opened = opened_same acting (stage.Raising ch next (kept_raised z k)) refl;
       seen = sees_raised ch z k acting;
       raised = raised_sum ch z k (stage.Raising ch next (kept_raised z k)) acting owes;
@@ -179,16 +193,16 @@ raise_quietly {s = s} {a = a} {t = t} ch z k next acting owes made =
 -- ---- the third raise
 
 -- the stage after the third raise of a change, which stays inside
-pub record Settles (g : GeometryData) (words : List ℕ) (c k : ℕ) (t : Task) (ch : Change) (kept : Kept) (next : Stage) : Type 0 where
+pub record Settles (g : GeometryData) (m : ℕ → Gpi) (words : List ℕ) (c k : ℕ) (t : Task) (ch : Change) (kept : Kept) (next : Stage) : Type 0 where
   pub stays : is_inside next ≡ true
   pub closes : open_at g next (Some t) ≡ []
   pub owes : Owes ch size.FiveTwelve kept next
-  pub sees : SeesAll g words t (to_of t ch) (kept_raised size.FiveTwelve kept) → SeesAt g words next (Some t)
+  pub sees : SeesAll g m words t (to_of t ch) (kept_raised size.FiveTwelve kept) → SeesAt g m words next (Some t)
   pub front : entries_at g c k next (Some t) ≡ entries_at g c k (stage.Raising ch size.FiveTwelve kept) (Some t) ++ entry.Settled c k (granule_of_task g t) ∷ []
   pub coming : (given : Answer) → coming_at next ≡ given ∷ [] → given ≡ answer.Done (kept_raised size.FiveTwelve kept).generations
 
-settle_first : (g : GeometryData) (words : List ℕ) (c k : ℕ) (t : Task) (kept : Kept) → IsChangeOf t change.First → Settles g words c k t change.First kept (stage.Changing change.Last (kept_raised size.FiveTwelve kept))
-settle_first g words c k (task.Undelegate pa source) kept is = record {
+settle_first : (g : GeometryData) (m : ℕ → Gpi) (words : List ℕ) (c k : ℕ) (t : Task) (kept : Kept) → IsChangeOf t change.First → Settles g m words c k t change.First kept (stage.Changing change.Last (kept_raised size.FiveTwelve kept))
+settle_first g m words c k (task.Undelegate pa source) kept is = record {
   stays = refl;
   closes = refl;
   owes = record { own = refl; paid = refl; others = last_others };
@@ -196,15 +210,26 @@ settle_first g words c k (task.Undelegate pa source) kept is = record {
   front = refl;
   coming = λ given e. absurd cc;
 }
-settle_first g words c k t kept is = absurd is
+settle_first g m words c k t kept is = absurd is
 
-settle_last : (g : GeometryData) (words : List ℕ) (c k : ℕ) (t : Task) (kept : Kept) → IsChangeOf t change.Last
-    → Settles g words c k t change.Last kept (stage.Releasing (Some (answer.Done (kept_raised size.FiveTwelve kept).generations)))
-settle_last g words c k (task.Delegate pa source) kept is =
-    record { stays = refl; closes = refl; owes = record { own = refl; paid = refl; others = last_others }; sees = λ sees. tt; front = refl; coming = λ given e. cc }
-settle_last g words c k (task.Undelegate pa source) kept is =
-    record { stays = refl; closes = refl; owes = record { own = refl; paid = refl; others = last_others }; sees = λ sees. tt; front = refl; coming = λ given e. cc }
-settle_last g words c k t kept is = absurd is
+-- merging begins, or is over at once
+all_front : (g : GeometryData) (c k : ℕ) (t : Task) (kept : Kept) → IsChangeOf t change.Last
+    → entries_of g c k t (answer.Done (kept_raised size.FiveTwelve kept).generations) ≡ entries_at g c k (stage.Raising change.Last size.FiveTwelve kept) (Some t) ++ entry.Settled c k (granule_of_task g t) ∷ []
+all_front g c k (task.Delegate pa source) kept is = refl
+all_front g c k (task.Undelegate pa source) kept is = refl
+all_front g c k t kept is = absurd is
+
+settle_last : (g : GeometryData) (m : ℕ → Gpi) (words : List ℕ) (c k : ℕ) (t : Task) (kept : Kept) (f : FuseData) (o : Option Act) → IsChangeOf t change.Last → Facts g.setup m (granule_of_task g t) (Merges f.gpi f.step)
+    → Settles g m words c k t change.Last kept (merging_stage o f (kept_raised size.FiveTwelve kept).generations)
+settle_last g m words c k t kept f None is known =
+    record { stays = refl; closes = refl; owes = record { own = refl; paid = refl; others = last_others }; sees = λ sees. tt; front = all_front g c k t kept is; coming = λ given e. cc }
+settle_last g m words c k t kept f (Some next) is known =
+    record { stays = refl; closes = refl; owes = record { own = refl; paid = refl; others = last_others }; sees = λ sees. known; front = all_front g c k t kept is; coming = λ given e. cc }
+
+settle_none : (g : GeometryData) (m : ℕ → Gpi) (words : List ℕ) (c k : ℕ) (t : Task) (kept : Kept) → IsChangeOf t change.Last
+    → Settles g m words c k t change.Last kept (stage.Releasing (answer.Done (kept_raised size.FiveTwelve kept).generations))
+settle_none g m words c k t kept is =
+    record { stays = refl; closes = refl; owes = record { own = refl; paid = refl; others = last_others }; sees = λ sees. tt; front = all_front g c k t kept is; coming = λ given e. cc }
 
 -- of each size: raised before, or by this raise
 settled_count : (g : GeometryData) (t : Task) (a : AgentData) (ch : Change) (k : Kept) (y : Size) (count : ℕ) → a.geometry ≡ g → a.stage ≡ stage.Raising ch size.FiveTwelve k → task_of a ≡ Some t
@@ -214,11 +239,12 @@ settled_count g t a ch k size.ThirtyTwo count same at under_way seen = let sum =
 settled_count g t a ch k size.FiveTwelve count same at under_way seen = let sum = rw (at, under_way, same, eq-eqb _ _ refl) at seen in omega (arith, sum)
 
 raise_last : {s : Scene} {c : ℕ} {a : AgentData} {t : Task} (ch : Change) (k : Kept) (next : Stage) (acting : Acting s c a t (stage.Raising ch size.FiveTwelve k))
-    → Settles a.geometry (set s.words (gen_place_of a.geometry size.FiveTwelve (address_of t)) (k.generations.five_twelve + 1)) c (length a.answers) t ch k next
+    → Settles a.geometry (map_in s) (set s.words (gen_place_of a.geometry size.FiveTwelve (address_of t)) (k.generations.five_twelve + 1)) c (length a.answers) t ch k next
+    → AreTables a.geometry (set s.words (gen_place_of a.geometry size.FiveTwelve (address_of t)) (k.generations.five_twelve + 1)) (set s.callers c (caller.Agent (goes_to (at_stage a (stage.Raising ch size.FiveTwelve k)) next))) (map_in s)
     → IsMade a.geometry (caller.Agent (goes_to (at_stage a (stage.Raising ch size.FiveTwelve k)) next))
     → HoldsIn a.geometry (scene_after s c (caller.Agent (goes_to (at_stage a (stage.Raising ch size.FiveTwelve k)) next)) (set s.words (gen_place_of a.geometry size.FiveTwelve (address_of t)) (k.generations.five_twelve + 1))
     (entry.Settled c (length a.answers) (granule_of_task a.geometry t) ∷ []))
-raise_last {s = s} {c = c} {a = a} {t = t} ch k next acting settles made =
+raise_last {s = s} {c = c} {a = a} {t = t} ch k next acting settles tables made =
     let g = a.geometry in
     let me = caller.Agent (at_stage a (stage.Raising ch size.FiveTwelve k)) in
     let x = caller.Agent (goes_to (at_stage a (stage.Raising ch size.FiveTwelve k)) next) in
@@ -227,7 +253,7 @@ raise_last {s = s} {c = c} {a = a} {t = t} ch k next acting settles made =
     let granule = granule_of_task g t in
     let e = entry.Settled c (length a.answers) granule in
     let closed = closed_of acting refl in
-    let sees : SeesAll g s.words t (to_of t ch) k = seen_of acting in
+    let sees : SeesAll g (map_in s) s.words t (to_of t ch) k = seen_of acting in
     let own_open : open_by me ≡ (granule, from_of t ch) ∷ [] = rw acting.under_way refl in
     let own_closed : open_by x ≡ [] = rw acting.under_way settles.closes in
     goes_keeps acting next (Some (Generation size.FiveTwelve (address_of t / size_bytes size.FiveTwelve))) after (Some e)
@@ -236,11 +262,11 @@ raise_last {s = s} {c = c} {a = a} {t = t} ch k next acting settles made =
       stays = settles.stays;
       made = made;
       writes = writes;
-      block = (address_of t, refl, refl);
       no_lock = refl;
       idle = refl;
       entry = record { caller = refl; call = refl; granule = refl; allowed = open_here (state_in s) s.callers c granule (from_of t ch) me acting.at acting.stands.opened closed own_open };
-      tables = tables_left writes (state_in s).map refl acting.stands.shape.geometry acting.stands.tables;
+      tables = tables;
+      others = others_left acting (lock_of_task a t) writes (address_of t, refl, refl) (other_lock acting refl);
       opened = opened_settle (state_in s).opened _ s.callers c granule (from_of t ch) me x acting.at acting.stands.opened refl own_open own_closed closed;
       seen = settles.sees (sees_raised ch size.FiveTwelve k acting);
       raised = raised_sum ch size.FiveTwelve k next acting settles.owes;
@@ -252,23 +278,86 @@ raise_last {s = s} {c = c} {a = a} {t = t} ch k next acting settles made =
       front = settles.front;
     })
 
+-- ---- after the last raise
+
+-- merging around a word with these sixteen GPIs, if they are equal
+abbrev fuse_with : GeometryData → ℕ → Option Gpi → FuseData
+fuse_with g index o = record {
+  first = place_of g (Level1 0);
+  own = index;
+  two = words_of g.setup size.Two;
+  max = g.setup.max;
+  gpi = fuse.gpi_or_none o;
+  step = begun g.setup.max o;
+}
+
+-- the words by the step of merging that follows
+merging_words : {s : Scene} {c : ℕ} {a : AgentData} {t : Task} (k : Kept) (step : Step) (next : Stage) (v : ℕ) (acting : Acting s c a t (stage.Raising change.Last size.FiveTwelve k)) → step_of (known_at next) ≡ step
+    → AreWords a.geometry (map_in s) (apart_by a.geometry.setup (set (holders_of s.callers) c (record { granule = granule_of_task a.geometry t; step = step }))) s.words
+    → AreTables a.geometry (set s.words (gen_place_of a.geometry size.FiveTwelve (address_of t)) v) (set s.callers c (caller.Agent (goes_to (at_stage a (stage.Raising change.Last size.FiveTwelve k)) next))) (map_in s)
+merging_words {s = s} {c = c} {a = a} {t = t} k step next v acting same are =
+    let after = set s.words (gen_place_of a.geometry size.FiveTwelve (address_of t)) v in
+    tables_after acting next after
+    (subst (λ (x : Step). AreWords a.geometry (map_in s) (apart_by a.geometry.setup (set (holders_of s.callers) c (record { granule = granule_of_task a.geometry t; step = x }))) after) (sym same)
+    (words_left (writes_raise acting size.FiveTwelve v) (map_in s) _ refl acting.stands.shape.geometry are))
+
+-- where merging is over its tables are whole
+pub merging_step_of : (f : FuseData) (k : Generations) (o : Option Act) → fuse.next_of f ≡ o → step_of (known_at (merging_stage o f k)) ≡ merging_step f.step
+merging_step_of f k (Some next) there = refl
+merging_step_of f k None over = over_step f.first f.own f.two f.gpi f.step over
+  where
+    over_step : (first own two : ℕ) (v : Gpi) (step : Fusing) → fuse.act_at first own two v step ≡ None → Whole ≡ merging_step step
+    over_step first own two v (Testing z j) over = absurd cc
+    over_step first own two v (Storing z j) over = absurd cc
+    over_step first own two v (Ended o) over = refl
+
+-- the last raise: the word has sixteen equal GPIs, or there is nothing to merge
+last_raise : {s : Scene} {c : ℕ} {a : AgentData} {t : Task} (k : Kept) (index : ℕ) (o : Option Gpi) (acting : Acting s c a t (stage.Raising change.Last size.FiveTwelve k)) → IsChangeOf t change.Last → equal_gpi k.word ≡ o
+    → IsMade a.geometry (caller.Agent (goes_to (at_stage a (stage.Raising change.Last size.FiveTwelve k)) (merged_stage (fuse_with a.geometry index o) (kept_raised size.FiveTwelve k).generations)))
+    → HoldsIn a.geometry (scene_after s c (caller.Agent (goes_to (at_stage a (stage.Raising change.Last size.FiveTwelve k)) (merged_stage (fuse_with a.geometry index o) (kept_raised size.FiveTwelve k).generations)))
+    (set s.words (gen_place_of a.geometry size.FiveTwelve (address_of t)) (k.generations.five_twelve + 1)) (entry.Settled c (length a.answers) (granule_of_task a.geometry t) ∷ []))
+last_raise {s = s} {c = c} {a = a} {t = t} k index None acting is equal made =
+    let g = a.geometry in
+    let granule = granule_of_task g t in
+    let sees : SeesAll g (map_in s) s.words t (to_of t change.Last) k = seen_of acting in
+    let none : largest_block g.setup (map_in s) None (granule / 16) ≡ None =
+    finds_largest g.setup (map_in s) granule None (inr (inl (λ v same. equal_none k.word equal v (sees.known ∙ same)))) in
+    raise_last change.Last k (stage.Releasing (answer.Done (kept_raised size.FiveTwelve k).generations)) acting (settle_none g (map_in s) _ c (length a.answers) t k is)
+    (merging_words k Whole (stage.Releasing (answer.Done (kept_raised size.FiveTwelve k).generations)) _ acting refl
+    (no_merge g (map_in s) (holders_of s.callers) c granule s.words (holder_at acting) (alone_there acting refl) none acting.stands.tables.level1))
+    made
+last_raise {s = s} {c = c} {a = a} {t = t} k index (Some v) acting is equal made =
+    let g = a.geometry in
+    let granule = granule_of_task g t in
+    let f = fuse_with g index (Some v) in
+    let gens = (kept_raised size.FiveTwelve k).generations in
+    let sees : SeesAll g (map_in s) s.words t (to_of t change.Last) k = seen_of acting in
+    let known : Facts g.setup (map_in s) granule (Merges v (begun g.setup.max (Some v))) =
+    merges g.setup (map_in s) granule v (subst (λ (w : ℕ). Facts g.setup (map_in s) granule (Keeps w)) (equal_found k.word v equal) sees.known) in
+    raise_last change.Last k (merged_stage f gens) acting (settle_last g (map_in s) _ c (length a.answers) t k f (fuse.next_of f) is known)
+    (merging_words k (merging_step f.step) (merged_stage f gens) _ acting (merging_step_of f gens (fuse.next_of f) refl)
+    (load_words g (map_in s) (holders_of s.callers) c granule v f.step s.words (holder_at acting) (alone_there acting refl) (begun_unstored g.setup.max (Some v)) known.1 acting.stands.tables.level1))
+    made
+
 -- ---- any raise
 
 raise_at : {s : Scene} {c : ℕ} {a : AgentData} {t : Task} (ch : Change) (z : Size) (k : Kept) (acting : Acting s c a t (stage.Raising ch z k)) → IsChangeOf t ch
-    → HoldsIn a.geometry (scene_after s c (caller.Agent (goes_to (at_stage a (stage.Raising ch z k)) (raised_stage ch z (kept_raised z k)))) (set s.words (gen_place_of a.geometry z (address_of t)) (generation_in z k.generations + 1))
+    → HoldsIn a.geometry (scene_after s c (caller.Agent (goes_to (at_stage a (stage.Raising ch z k)) (raised_stage a.geometry t ch z (kept_raised z k)))) (set s.words (gen_place_of a.geometry z (address_of t)) (generation_in z k.generations + 1))
     (made_at a.geometry c (length a.answers) (stage.Raising ch z k) (Some t) 0))
 raise_at ch size.Two k acting is = raise_quietly ch size.Two k size.ThirtyTwo acting (owes_two ch k _) (acting.made 0)
 raise_at ch size.ThirtyTwo k acting is = raise_quietly ch size.ThirtyTwo k size.FiveTwelve acting (owes_thirty_two ch k _) (acting.made 0)
-raise_at {c = c} {a = a} {t = t} change.First size.FiveTwelve k acting is =
-    raise_last change.First k (stage.Changing change.Last (kept_raised size.FiveTwelve k)) acting (settle_first a.geometry _ c (length a.answers) t k is) (acting.made 0)
-raise_at {c = c} {a = a} {t = t} change.Last size.FiveTwelve k acting is =
-    raise_last change.Last k (stage.Releasing (Some (answer.Done (kept_raised size.FiveTwelve k).generations))) acting (settle_last a.geometry _ c (length a.answers) t k is) (acting.made 0)
+raise_at {s = s} {c = c} {a = a} {t = t} change.First size.FiveTwelve k acting is =
+    let next = stage.Changing change.Last (kept_raised size.FiveTwelve k) in
+    raise_last change.First k next acting (settle_first a.geometry (map_in s) _ c (length a.answers) t k is) (tables_stay acting refl next refl (writes_raise acting size.FiveTwelve (k.generations.five_twelve + 1)) refl) (acting.made 0)
+raise_at {s = s} {c = c} {a = a} {t = t} change.Last size.FiveTwelve k acting is =
+    last_raise k (number_of (l1_index_of a.geometry (address_of t))) (equal_gpi k.word) acting is refl (acting.made 0)
 
-change_in : (t : Task) (ch : Change) (z : Size) (k : Kept) → IsStage (stage.Raising ch z k) (Some t) → IsChangeOf t ch
-change_in t ch size.Two k is = is.0
-change_in t ch z k is = is.0
+change_in : (g : GeometryData) (t : Task) (ch : Change) (z : Size) (k : Kept) → IsStage g (stage.Raising ch z k) (Some t) → IsChangeOf t ch
+change_in g t ch size.Two k is = is.0
+change_in g t ch size.ThirtyTwo k is = is.0
+change_in g t ch size.FiveTwelve k is = is.0
 
 pub raise_keeps : {s : Scene} {c : ℕ} {a : AgentData} {t : Task} (ch : Change) (z : Size) (k : Kept) (acting : Acting s c a t (stage.Raising ch z k))
     → ActKeeps s c a t (stage.Raising ch z k) (gen_raise_of a.geometry z (address_of t) (generation_in z k.generations))
-raise_keeps {t = t} ch z k acting =
-    (tt, raise_at ch z k acting (change_in t ch z k (subst (IsStage (stage.Raising ch z k)) acting.under_way acting.is.stage)))
+raise_keeps {a = a} {t = t} ch z k acting =
+    (tt, raise_at ch z k acting (change_in a.geometry t ch z k (subst (IsStage a.geometry (stage.Raising ch z k)) acting.under_way acting.is.stage)))

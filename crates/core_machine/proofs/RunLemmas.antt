@@ -51,7 +51,7 @@ use Rattle.core_machine.proofs.HolderLemmas.{state_length}
 use Rattle.core_machine.proofs.MachineLemmas.{turns_hold, scene_of}
 use Rattle.core_machine.proofs.TraceLemmas.{played_walked, trace_entries, trace_words, trace_answered, IsDone, done_stays, turns_taken, trace_known, trace_counts}
 use Rattle.core_machine.proofs.AnswerLemmas.{calls_cause, alone_told, worn_told}
-use Rattle.core_machine.proofs.PartLemmas.{tables_told, canonical_told}
+use Rattle.core_machine.proofs.FreeLemmas.{tables_told, canonical_told, whole_told}
 use Rattle.delegate_ops.proofs.FollowLemmas.{walked_follows, walked_ended}
 use Rattle.delegate_ops.proofs.NextLemmas.{next_there}
 use Rattle.scenario_text.specs.declared.scenario.Look.{Look}
@@ -223,7 +223,6 @@ causes_told g callers tasks have made c k t given asked answered =
 pub fits_history : (g : GeometryData) (s : Scene) (tasks : List (List Task)) → HoldsIn g s → HaveTasks tasks s.callers → AreMade g s.callers → length tasks ≡ length s.callers
     → FitsHistory g s.first tasks (map caller_answers s.callers) s.words s.history
 fits_history g s tasks stands have made count =
-    let whole : length (state_in s).map ≡ space_granules g.setup = state_length (start s.first) s.history ∙ stands.shape.granules in
     record {
       many = length-map s.callers caller_answers ∙ sym count;
       size = stands.shape.size;
@@ -234,11 +233,11 @@ fits_history g s tasks stands have made count =
       worn = worn_told g s tasks stands have made;
       undisturbed = stands.undisturbed;
       alone = alone_told g s stands made;
-      tables = ?;
-      canonical = ?;
-      whole = ?;
+      tables = tables_told g s stands;
+      canonical = canonical_told g s stands;
       generations = generations_told g s stands;
       ended = locks_ended g s tasks stands have;
+      whole = whole_told g s stands (locks_ended g s tasks stands have);
       duty = stands.idle.duty;
       lines = stands.idle.lines;
     }
