@@ -8,7 +8,7 @@ use Rattle.shared_words.specs.declared.act.Act.{Act}
 use Rattle.shared_words.specs.declared.act.Act.TheVariants as act
 use Rattle.bit_locks.specs.declared.lock.Bit.{Bit}
 
--- the number of the lock of an address: one for all, or one for each so many blocks of 512 MB
+-- the number of the lock of an address: one for all, or one for each `lock_blocks` blocks of 512 MB
 abbrev pub lock_number : SetupData → ℕ → ℕ
 lock_number s pa = if s.lock_blocks == 0 then 0 else pa / size_bytes size.FiveTwelve / s.lock_blocks
 

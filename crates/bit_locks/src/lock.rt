@@ -13,8 +13,8 @@ pub struct Bit {
     pub mask: u64,
 }
 
-/// The lock bit of a byte address in the protected space: the first one where the setup has one lock
-/// for all, else that of its blocks of 512 MB (TF-A `gpt_rme`, bitlocks).
+/// The lock bit of a byte address in the protected space: the first one where the setup has one
+/// lock for all, else that of its blocks of 512 MB (TF-A `gpt_rme`, bitlocks).
 pub fn lock_of(geometry: &Geometry, pa: u64) -> Bit
     requires { pa < space_bytes geometry.now.setup }
     ensures bit { result ≡ bit_with (lock_number geometry.now.setup pa) }

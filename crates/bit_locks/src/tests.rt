@@ -4,7 +4,8 @@ use shared_words::{Act, PlainWords, Words};
 use std::alloc::Global;
 use std::test::Fail;
 
-/// A space of so many gigabytes, all blocks, whose lock bits cover so many blocks of 512 MB each.
+/// A space of this number of gigabytes, all blocks, whose lock bits cover `lock_blocks` blocks of
+/// 512 MB each.
 fn all_blocks(gigabytes: u64, lock_blocks: u64) -> Result<Geometry, Fail> {
     let setup = Setup::new(gigabytes, MaxBlock::Zero, lock_blocks, 0, 1, 0, 0).ok_or("refused")?;
     let l0 = [0xf1; 64];

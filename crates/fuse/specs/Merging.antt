@@ -1,6 +1,6 @@
--- Merging of contiguous blocks (TF-A gpt_rme, fusing of contiguous descriptors) as plain data, a load or a store at a
--- time. What is loaded and stored is named by its number among the L1 words, which are in a row from their first
--- place on.
+-- Merging of contiguous blocks (TF-A gpt_rme, fusing of contiguous descriptors) as plain data, a
+-- load or a store at a time. What is loaded and stored is named by its number among the L1 words,
+-- which are in a row from their first place on.
 use Rattle.std.specs.Prelude.{ℕ, ◌+◌, ◌*◌, ◌^◌, ◌<◌, Option, Some, None}
 use Rattle.gpi_values.specs.declared.gpi.Gpi.{Gpi}
 use Rattle.gpi_values.specs.declared.gpi.Gpi.TheVariants as gpi
@@ -19,8 +19,8 @@ use Rattle.table_meaning.specs.Fusing.{block_words, loads_of, load_at, store_at,
 use Rattle.fuse.specs.declared.outcome.Fused.{Fused}
 use Rattle.fuse.specs.declared.outcome.Fused.TheVariants as fused
 
--- the place of the first L1 word, the number of the granule's word among the L1 words, how many words 2 MB have, the
--- largest permitted size, the GPI of the granule's word, and where merging is
+-- the place of the first L1 word, the number of the granule's word among the L1 words, how many
+-- words 2 MB have, the largest permitted size, the GPI of the granule's word, and where merging is
 pub record FuseData : Type 0 where
   pub first : ℕ
   pub own : ℕ
@@ -32,7 +32,8 @@ pub record FuseData : Type 0 where
 -- the next act: a test load, then the stores; none where merging has ended
 abbrev pub act_at : ℕ → ℕ → ℕ → Gpi → Fusing → Option Act
 act_at first own two gpi (Testing z k) = Some (act.Load (first + load_at two own z k))
-act_at first own two gpi (Storing z k) = Some (act.Store (first + store_at two own z k) (l1_word (l1.Contig z gpi)))
+act_at first own two gpi (Storing z k) =
+    Some (act.Store (first + store_at two own z k) (l1_word (l1.Contig z gpi)))
 act_at first own two gpi (Ended o) = None
 
 abbrev pub next_of : FuseData → Option Act
@@ -45,7 +46,14 @@ after_at two max gpi (Storing z k) old = stored two z k
 after_at two max gpi (Ended o) old = Ended o
 
 abbrev pub took_of : FuseData → ℕ → FuseData
-took_of d old = record { first = d.first; own = d.own; two = d.two; max = d.max; gpi = d.gpi; step = after_at d.two d.max d.gpi d.step old }
+took_of d old = record {
+  first = d.first;
+  own = d.own;
+  two = d.two;
+  max = d.max;
+  gpi = d.gpi;
+  step = after_at d.two d.max d.gpi d.step old;
+}
 
 -- the outcome
 abbrev pub outcome_at : Fusing → Fused
@@ -62,8 +70,9 @@ gpi_or_none None = gpi.NoAccess
 
 -- ---- the start
 
--- what merging is around: the place of the first L1 word, the number of the granule's word among the L1 words, how
--- many words 2 MB have, the largest permitted size, and the word that was written last
+-- what merging is around: the place of the first L1 word, the number of the granule's word among
+-- the L1 words, how many words 2 MB have, the largest permitted size, and the word that was written
+-- last
 pub record Around : Type 0 where
   pub first : ℕ
   pub own : ℕ
@@ -73,7 +82,13 @@ pub record Around : Type 0 where
 
 -- around L1 word i of a geometry, which is this word
 abbrev pub around_of : GeometryData → ℕ → ℕ → Around
-around_of g i word = record { first = place_of g (Level1 0); own = i; two = words_of g.setup size.Two; max = g.setup.max; word = word }
+around_of g i word = record {
+  first = place_of g (Level1 0);
+  own = i;
+  two = words_of g.setup size.Two;
+  max = g.setup.max;
+  word = word;
+}
 
 abbrev pub begin_of : Around → FuseData
 begin_of a = record {

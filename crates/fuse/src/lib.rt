@@ -1,6 +1,6 @@
-//! Merging of contiguous blocks (TF-A `gpt_rme`, fusing of contiguous descriptors): the loads that test what
-//! is around a word after one of its granules was changed, and the stores that make the largest block of one
-//! GPI one contiguous entry. No call takes memory.
+//! Merging of contiguous blocks (TF-A `gpt_rme`, fusing of contiguous descriptors): the loads that
+//! test what is around a word after one of its granules was changed, and the stores that make the
+//! largest block of one GPI one contiguous entry. No call takes memory.
 #![tactic(auto)]
 
 mod law;

@@ -37,7 +37,14 @@ impl Model for Fuse {
 
     ghost Value = { FuseData };
 
-    ghost view = { λ d. record { first = d.first; own = d.own; two = d.two; max = d.max; gpi = d.gpi; step = d.step } };
+    ghost view = { λ d. record {
+      first = d.first;
+      own = d.own;
+      two = d.two;
+      max = d.max;
+      gpi = d.gpi;
+      step = d.step;
+    } };
 
     ghost invariant = { λ d. IsFuse d.first d.own d.two d.step × (d.thirty_two ≡ 16 * d.two)
         × (d.two_start ≡ d.first + d.own / d.two * d.two)
@@ -71,8 +78,8 @@ fn block_start(own: usize, n: usize) -> usize
 }
 
 impl Fuse {
-    /// Merging around the L1 word of an address, before its first act. `word` is what the caller wrote
-    /// there last.
+    /// Merging around the L1 word of an address, before its first act. `word` is what the caller
+    /// wrote there last.
     pub fn new(geometry: &Geometry, pa: u64, word: u64) -> Fuse
         requires inside { pa < space_bytes geometry.now.setup }
         requires table { IsSome (l1_place_of geometry.now pa) }
@@ -153,9 +160,9 @@ impl Fuse {
         };
     }
 
-    /// What merging has done. `No` comes exactly where no contiguous size is permitted, the word that
-    /// merging began with hasn't sixteen equal GPIs, or a word that the test of 2 MB loaded differs from
-    /// it; else it is the largest size whose tests all passed.
+    /// What merging has done. `No` comes exactly where no contiguous size is permitted, the word
+    /// that merging began with hasn't sixteen equal GPIs, or a word that the test of 2 MB loaded
+    /// differs from it; else it is the largest size whose tests all passed.
     pub fn outcome(&self) -> Fused
         requires { next_of self.now ≡ None }
         ensures { result ≡ outcome_of self.now }

@@ -16,7 +16,8 @@ pub fn block_words(two: usize, size: Size) -> usize
     }
 }
 
-/// Loads of the test of a size: each word of the 2 MB, the first word of each of the fifteen other blocks.
+/// Loads of the test of a size: each word of the 2 MB, the first word of each of the fifteen other
+/// blocks.
 fn loads_of(two: usize, size: Size) -> usize
     ensures { result ≡ loads_of two size }
 {

@@ -16,8 +16,10 @@ fn word_in(table: &[u64], w: usize) -> u64
 /// A word of the block of `n` words around word `own` that differs from it.
 fn stops_two(table: &[u64], own: usize, n: usize) -> Option<usize>
     requires { (0 < n) × (n < 2 ^ 20) × (own < 2 ^ 40) }
-    ensures some { IfSome result (λ w. (w / n ≡ own / n) × (slice_index table.now w ≢ slice_index table.now own)) }
-    ensures none { IfNone result ((w : ℕ) → w / n ≡ own / n → slice_index table.now w ≡ slice_index table.now own) }
+    ensures some { IfSome result (λ w.
+        (w / n ≡ own / n) × (slice_index table.now w ≢ slice_index table.now own)) }
+    ensures none { IfNone result ((w : ℕ)
+        → w / n ≡ own / n → slice_index table.now w ≡ slice_index table.now own) }
 {
     let start = own / n * n;
     for k in 0..n {
@@ -28,11 +30,14 @@ fn stops_two(table: &[u64], own: usize, n: usize) -> Option<usize>
     None
 }
 
-/// Of the sixteen blocks of `n` words around block `row`, another one whose first word isn't the needed one.
+/// Of the sixteen blocks of `n` words around block `row`, another one whose first word isn't the
+/// needed one.
 fn stops_beside(table: &[u64], row: usize, n: usize, needed: u64) -> Option<usize>
     requires { (n < 2 ^ 20) × (row < 2 ^ 40) }
-    ensures some { IfSome result (λ q. (q / 16 ≡ row / 16) × (q ≢ row) × (slice_index table.now (q * n) ≢ needed)) }
-    ensures none { IfNone result ((q : ℕ) → q / 16 ≡ row / 16 → q ≢ row → slice_index table.now (q * n) ≡ needed) }
+    ensures some { IfSome result (λ q.
+        (q / 16 ≡ row / 16) × (q ≢ row) × (slice_index table.now (q * n) ≢ needed)) }
+    ensures none { IfNone result ((q : ℕ)
+        → q / 16 ≡ row / 16 → q ≢ row → slice_index table.now (q * n) ≡ needed) }
 {
     let start = row / 16 * 16;
     for k in 0..16 {
@@ -62,7 +67,8 @@ fn stops_thirty_two(setup: &Setup, table: &[u64], own: usize, gpi: Gpi) -> bool
 fn stops_five_twelve(setup: &Setup, table: &[u64], own: usize, gpi: Gpi) -> bool
     requires { own < 2 ^ 40 }
     ensures yes { result ≡ true → StopsFiveTwelve setup.now (λ w. slice_index table.now w) own gpi }
-    ensures no { result ≡ false → PassesFiveTwelve setup.now (λ w. slice_index table.now w) own gpi }
+    ensures no { result ≡ false
+        → PassesFiveTwelve setup.now (λ w. slice_index table.now w) own gpi }
 {
     let thirty_two = setup.words_of(Size::ThirtyTwo) as usize;
     let needed = encode_l1(L1Entry::Contig(Size::ThirtyTwo, gpi));

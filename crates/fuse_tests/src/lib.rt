@@ -1,4 +1,5 @@
-//! Tests of `fuse`, in a crate of their own, and the plain slow program that finds a size by its definition.
+//! Tests of `fuse`, in a crate of their own, and the plain slow program that finds a size by its
+//! definition.
 #![tactic(auto)]
 
 mod finding;

@@ -17,8 +17,8 @@ fn one_table(max: MaxBlock) -> Option<Geometry> {
     }
 }
 
-/// The word of granule 4,128 * 16 + 5, whose 2 MB are the words from 4,128 on and whose 32 MB those from
-/// 4,096 on.
+/// The word of granule 4,128 * 16 + 5, whose 2 MB are the words from 4,128 on and whose 32 MB those
+/// from 4,096 on.
 const OWN: usize = 4129;
 
 /// Word `w` of non-secure tables that are canonical apart from that granule, for a largest size.
@@ -115,8 +115,8 @@ fn fused_of(found: Option<Size>) -> Fused {
     }
 }
 
-/// Merges tables in which one word is replaced, and holds it against the definition. It gives the outcome and
-/// the number of acts where all agrees.
+/// Merges tables in which one word is replaced, and holds it against the definition. It gives the
+/// outcome and the number of acts where all agrees.
 fn merged(
     alloc: Global,
     max: MaxBlock,
@@ -142,8 +142,9 @@ fn merged(
     }
 }
 
-/// The largest size, a word that is replaced, by which one, and what is merged in how many acts. Non-secure
-/// words: 32 loads of the 2 MB, 15 for each larger size, and a store for each word of the block.
+/// The largest size, a word that is replaced, by which one, and what is merged in how many acts.
+/// Non-secure words: 32 loads of the 2 MB, 15 for each larger size, and a store for each word of
+/// the block.
 const MERGES: [(MaxBlock, usize, u64, Fused, u64); 16] = [
     (
         MaxBlock::FiveTwelve,

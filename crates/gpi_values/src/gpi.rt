@@ -42,8 +42,8 @@ pub fn nibble(gpi: Gpi) -> u64
     }
 }
 
-/// The GPI with this value, or `None` exactly where no accepted GPI has it (DDI 0487, encodings of the
-/// GPI field; the values that it reserves or gives to later extensions are refused).
+/// The GPI with this value, or `None` exactly where no accepted GPI has it (DDI 0487, encodings of
+/// the GPI field; the values that it reserves or gives to later extensions are refused).
 pub fn gpi_of(value: u64) -> Option<Gpi>
     ensures found { IfSome result (λ gpi. value ≡ value_of gpi) }
     ensures none { IfNone result ((gpi : Gpi) → value ≢ value_of gpi) }

@@ -1,6 +1,6 @@
 -- Canonical L1 words: given a map from granule to GPI, each word is contiguous of the largest size
--- that is permitted and whose aligned block has one GPI, else it is the granules word of the map (DDI 0487,
--- GPT level 1 descriptors; TF-A gpt_rme fills and fuses tables up to RME_GPT_MAX_BLOCK).
+-- that is permitted and whose aligned block has one GPI, else it is the granules word of the map
+-- (DDI 0487, GPT level 1 descriptors; TF-A gpt_rme fills and fuses tables up to RME_GPT_MAX_BLOCK).
 -- A word is named by its number in the protected space: word w has granules 16 w to 16 w + 15.
 use Rattle.std.specs.Prelude.{◌≡◌, ℕ, ◌*◌, ◌/◌, Bool, true, ◌&&◌, not, [], ◌∷◌, Option, Some, None, ◌==◌}
 use Rattle.std.specs.List.{find, list_all, range_with_len}
@@ -31,11 +31,13 @@ counts (Some g) n b = not (g / 16 / n == b)
 -- the aligned block of this size around word w counts and may be one entry
 unfoldable pub is_block_around : SetupData → (ℕ → Gpi) → Option ℕ → ℕ → Size → Bool
 is_block_around s m apart w size =
-    counts apart (words_of s size) (w / words_of s size) && is_one_block s m size (w / words_of s size)
+    counts apart (words_of s size) (w / words_of s size)
+    && is_one_block s m size (w / words_of s size)
 
 -- the largest such size
 abbrev pub largest_block : SetupData → (ℕ → Gpi) → Option ℕ → ℕ → Option Size
-largest_block s m apart w = find (is_block_around s m apart w) (size.FiveTwelve ∷ size.ThirtyTwo ∷ size.Two ∷ [])
+largest_block s m apart w =
+    find (is_block_around s m apart w) (size.FiveTwelve ∷ size.ThirtyTwo ∷ size.Two ∷ [])
 
 abbrev pub canonical_with : (ℕ → Gpi) → ℕ → Option Size → ℕ
 canonical_with m w (Some size) = l1_word (l1.Contig size (m (16 * w)))
@@ -52,4 +54,5 @@ BlockIs s m size b gpi = (g : ℕ) → g / 16 / words_of s size ≡ b → m g �
 -- every granule of the aligned block of a contiguous entry at w has the entry's GPI
 abbrev pub CoversEqual : SetupData → (ℕ → Gpi) → ℕ → L1Entry → Type 0
 CoversEqual s m w (l1.Granules word) = Unit {0}
-CoversEqual s m w (l1.Contig size gpi) = (g : ℕ) → g / 16 / words_of s size ≡ w / words_of s size → m g ≡ gpi
+CoversEqual s m w (l1.Contig size gpi) =
+    (g : ℕ) → g / 16 / words_of s size ≡ w / words_of s size → m g ≡ gpi

@@ -1,5 +1,6 @@
--- The descriptors of the granule protection tables (DDI 0487, GPT level 0 and level 1 descriptors), with the
--- names that TF-A's gpt_rme has for them, and what an L1 word means for each of its granules.
+-- The descriptors of the granule protection tables (DDI 0487, GPT level 0 and level 1 descriptors),
+-- with the names that TF-A's gpt_rme has for them, and what an L1 word means for each of its
+-- granules.
 use Rattle.std.specs.Prelude.{◌≡◌, ℕ, zero, suc, ◌+◌, ◌-◌, ◌*◌, ◌/◌, ◌%◌, ◌^◌, ◌<◌, Bool, ◌&&◌, Option, Some, None, IsSome, is_some, ◌==◌, nat_lt, if◌then◌else◌, option_and_then}
 use Rattle.std.specs.List.{list_all, range_with_len}
 use Rattle.std.specs.Option.{option_map}
@@ -21,8 +22,8 @@ size_code size.Two = 1
 size_code size.ThirtyTwo = 2
 size_code size.FiveTwelve = 3
 
--- the word of a level 0 entry: 0b0001 and the GPI above it (GPT_L0_TYPE_BLK_DESC), or 0b0011 and the address
--- of the table (GPT_L0_TYPE_TBL_DESC)
+-- the word of a level 0 entry: 0b0001 and the GPI above it (GPT_L0_TYPE_BLK_DESC), or 0b0011 and
+-- the address of the table (GPT_L0_TYPE_TBL_DESC)
 abbrev pub l0_word : L0Entry → ℕ
 l0_word (l0.Block gpi) = 1 + 16 * value_of gpi
 l0_word (l0.Table address) = 3 + address
@@ -63,7 +64,8 @@ size_with code =
 
 abbrev pub contiguous_entry : ℕ → Option L1Entry
 contiguous_entry word =
-    option_and_then (λ gpi. option_map (λ size. l1.Contig size gpi) (size_with (word / 256))) (gpi_with (word / 16 % 16))
+    option_and_then (λ gpi. option_map (λ size. l1.Contig size gpi) (size_with (word / 256)))
+    (gpi_with (word / 16 % 16))
 
 -- each of the sixteen fields is a GPI
 unfoldable pub knows_all : ℕ → Bool
@@ -81,8 +83,8 @@ abbrev pub entry_gpi : L1Entry → ℕ → Option Gpi
 entry_gpi (l1.Granules word) i = gpi_with (field word i)
 entry_gpi (l1.Contig size gpi) i = Some gpi
 
--- Meaning: the GPI that an L1 word gives the granule at place i (DDI 0487, granule protection checks). A word
--- that is no descriptor has none.
+-- Meaning: the GPI that an L1 word gives the granule at place i (DDI 0487, granule protection
+-- checks). A word that is no descriptor has none.
 abbrev pub word_gpi : ℕ → ℕ → Option Gpi
 word_gpi word i = option_and_then (λ entry. entry_gpi entry i) (l1_entry word)
 

@@ -1,5 +1,6 @@
--- The fields of granules words (DDI 0487, GPT level 1 descriptors): words that are granules descriptors, one
--- with a field replaced, and one of sixteen equal fields (TF-A gpt_rme, GPT_BUILD_L1_DESC).
+-- The fields of granules words (DDI 0487, GPT level 1 descriptors): words that are granules
+-- descriptors, one with a field replaced, and one of sixteen equal fields (TF-A gpt_rme,
+-- GPT_BUILD_L1_DESC).
 use Rattle.std.specs.Prelude.{ℕ, ◌+◌, ◌*◌, ◌/◌, ◌%◌, ◌^◌, Bool, true, false, Option, Some, None, ◌==◌, if◌then◌else◌, option_and_then}
 use Rattle.gpi_values.specs.declared.gpi.Gpi.{Gpi}
 use Rattle.gpi_values.specs.Values.{gpi_with}
@@ -17,7 +18,9 @@ granules_of gpi = packed (λ k. gpi) 0 16
 
 -- the GPI of a word of sixteen equal ones; none where it isn't such a word
 abbrev pub equal_gpi : ℕ → Option Gpi
-equal_gpi word = option_and_then (λ gpi. if word == granules_of gpi then Some gpi else None) (gpi_with (word % 16))
+equal_gpi word =
+    option_and_then (λ gpi. if word == granules_of gpi then Some gpi else None)
+    (gpi_with (word % 16))
 
 abbrev pub is_granules_entry : Option L1Entry → Bool
 is_granules_entry (Some (l1.Granules word)) = true

@@ -1,5 +1,5 @@
--- The level 0 table: one entry for each gigabyte of the protected space (DDI 0487, GPT level 0 descriptors; a
--- table is aligned to its size, which follows from PGS and L0GPTSZ).
+-- The level 0 table: one entry for each gigabyte of the protected space (DDI 0487, GPT level 0
+-- descriptors; a table is aligned to its size, which follows from PGS and L0GPTSZ).
 use Rattle.std.specs.Prelude.{ℕ, ◌+◌, ◌*◌, ◌/◌, ◌%◌, ◌^◌, Bool, true, false, ◌&&◌, List, [], ◌∷◌, length, take, count_by, slice_index, Option, Some, None, ◌==◌, nat_lt, nat_le, if◌then◌else◌}
 use Rattle.gpt_descriptors.specs.declared.entry.L0Entry.{L0Entry}
 use Rattle.gpt_descriptors.specs.declared.entry.L0Entry.TheVariants as l0
@@ -26,7 +26,8 @@ is_entry_good s k (Some (l0.Table address)) =
 abbrev pub are_entries_good : SetupData → ℕ → List ℕ → Bool
 are_entries_good s k [] = true
 are_entries_good s k (word ∷ words) =
-    is_entry_good s k (l0_entry word) && are_entries_good s (if is_table word then k + 1 else k) words
+    is_entry_good s k (l0_entry word)
+    && are_entries_good s (if is_table word then k + 1 else k) words
 
 abbrev pub is_l0_good : SetupData → List ℕ → Bool
 is_l0_good s words = (length words == s.gigabytes) && are_entries_good s 0 words

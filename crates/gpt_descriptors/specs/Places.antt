@@ -28,7 +28,8 @@ pub record IsGeometry (g : GeometryData) : Type 0 where
   pub rest : drop g.setup.gigabytes g.l0 ≡ replicate (64 - g.setup.gigabytes) 0
   pub tables : g.l1_tables ≡ table_count (l0_words g)
 
--- the shared words: locks, generations by size and block, duty by processor, L1 words and line words
+-- the shared words: locks, generations by size and block, duty by processor, L1 words and line
+-- words
 pub data WordName : Type 0 where
   Lock : ℕ → WordName
   Generation : Size → ℕ → WordName

@@ -1,6 +1,6 @@
--- The setup of a protected space, and the sizes in it (DDI 0487, granule protection tables: the fields
--- PGS, PPS and L0GPTSZ of GPCCR_EL3 for the bytes of a granule, of the protected space and of what one
--- level 0 entry covers).
+-- The setup of a protected space, and the sizes in it (DDI 0487, granule protection tables: the
+-- fields PGS, PPS and L0GPTSZ of GPCCR_EL3 for the bytes of a granule, of the protected space and
+-- of what one level 0 entry covers).
 use Rattle.std.specs.Prelude.{◌≡◌, ℕ, ◌-◌, ◌*◌, ◌/◌, ◌%◌, ◌^◌, ◌≤◌, ◌⊎◌, Bool, true, false, nat_lt}
 use Rattle.gpt_descriptors.specs.declared.size.Size.{Size}
 use Rattle.gpt_descriptors.specs.declared.size.Size.TheVariants as size
@@ -12,9 +12,10 @@ use Rattle.gpt_descriptors.specs.declared.size.Generations.{Generations}
 use Rattle.gpt_descriptors.specs.declared.entry.L1Entry.{L1Entry}
 use Rattle.gpt_descriptors.specs.declared.entry.L1Entry.TheVariants as l1
 
--- a setup as plain data: gigabytes of the protected space (PPS), the largest contiguous size that is used
--- (TF-A RME_GPT_MAX_BLOCK), blocks of 512 MB that one lock bit covers (RME_GPT_BITLOCK_BLOCK), the first
--- generation, the walks that a processor keeps, and the number and the first address of the L1 tables
+-- a setup as plain data: gigabytes of the protected space (PPS), the largest contiguous size that
+-- is used (TF-A RME_GPT_MAX_BLOCK), blocks of 512 MB that one lock bit covers
+-- (RME_GPT_BITLOCK_BLOCK), the first generation, the walks that a processor keeps, and the number
+-- and the first address of the L1 tables
 pub record SetupData : Type 0 where
   pub gigabytes : ℕ
   pub max : MaxBlock
@@ -28,7 +29,8 @@ pub record SetupData : Type 0 where
 abbrev pub generation_last : ℕ
 generation_last = 2 ^ 63 - 1
 
--- a generation is exhausted where it is too near to the last one for a transition, which raises it up to twice
+-- a generation is exhausted where it is too near to the last one for a transition, which raises it
+-- up to twice
 abbrev pub is_worn : ℕ → Bool
 is_worn value = nat_lt (generation_last - 2) value
 
@@ -145,6 +147,9 @@ generation_in size.FiveTwelve k = k.five_twelve
 
 -- the generations with that of a size replaced
 abbrev pub with_generation : Size → ℕ → Generations → Generations
-with_generation size.Two n k = record { two = n; thirty_two = k.thirty_two; five_twelve = k.five_twelve }
-with_generation size.ThirtyTwo n k = record { two = k.two; thirty_two = n; five_twelve = k.five_twelve }
-with_generation size.FiveTwelve n k = record { two = k.two; thirty_two = k.thirty_two; five_twelve = n }
+with_generation size.Two n k =
+    record { two = n; thirty_two = k.thirty_two; five_twelve = k.five_twelve }
+with_generation size.ThirtyTwo n k =
+    record { two = k.two; thirty_two = n; five_twelve = k.five_twelve }
+with_generation size.FiveTwelve n k =
+    record { two = k.two; thirty_two = k.thirty_two; five_twelve = n }

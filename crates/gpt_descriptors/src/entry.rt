@@ -68,8 +68,9 @@ pub fn encode_l0(entry: L0Entry) -> u64
 /// The lowest bit of each of the sixteen fields of a word.
 const LOWEST_BITS: u64 = 0x1111_1111_1111_1111;
 
-/// Whether all sixteen fields are GPIs, by the bits of all fields at once. No GPI are 0b0001 to 0b0111,
-/// which have a lower bit without bit 3, and 0b1100 to 0b1110, which have bit 2 without both below it.
+/// Whether all sixteen fields are GPIs, by the bits of all fields at once. No GPI are 0b0001 to
+/// 0b0111, which have a lower bit without bit 3, and 0b1100 to 0b1110, which have bit 2 without
+/// both below it.
 fn knows_all_fields(word: u64) -> bool
     ensures { result ≡ knows_all word }
 {

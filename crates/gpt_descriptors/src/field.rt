@@ -32,8 +32,8 @@ pub fn granules_of(gpi: Gpi) -> u64
     }
 }
 
-/// The GPI of a word of sixteen equal ones, or `None` exactly where the word isn't that of sixteen granules
-/// of one GPI.
+/// The GPI of a word of sixteen equal ones, or `None` exactly where the word isn't that of sixteen
+/// granules of one GPI.
 #[tactic(auto, using(crate::proofs::PackedLemmas::lowest_field))]
 pub fn equal_gpi(word: u64) -> Option<Gpi>
     ensures found { IfSome result (λ gpi. word ≡ granules_of gpi) }
@@ -48,8 +48,8 @@ pub fn equal_gpi(word: u64) -> Option<Gpi>
     }
 }
 
-/// Whether a word that is a level 1 descriptor is one of granules: its lowest four bits aren't the type
-/// of contiguous descriptors (TF-A `GPT_L1_TYPE_CONT_DESC`).
+/// Whether a word that is a level 1 descriptor is one of granules: its lowest four bits aren't the
+/// type of contiguous descriptors (TF-A `GPT_L1_TYPE_CONT_DESC`).
 #[tactic(auto, using(crate::proofs::FieldEntryLemmas::granules_type))]
 pub fn is_granules(word: u64) -> bool
     requires { IsSome (l1_entry word) }
@@ -69,8 +69,8 @@ fn known_gpi(value: u64) -> Gpi
     }
 }
 
-/// The GPI that a word which is a level 1 descriptor gives the granule at this place, 0 to 15. It reads
-/// that field alone.
+/// The GPI that a word which is a level 1 descriptor gives the granule at this place, 0 to 15. It
+/// reads that field alone.
 pub fn l1_field(word: u64, place: u64) -> Gpi
     requires descriptor { IsSome (l1_entry word) }
     requires place { place < 16 }

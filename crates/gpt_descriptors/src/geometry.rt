@@ -26,11 +26,14 @@ impl Model for Geometry {
 
     ghost Value = { GeometryData };
 
-    ghost view = { λ a. record { setup = a.setup; cpus = a.cpus; l1_tables = a.l1_tables; l0 = a.l0 } };
+    ghost view = { λ a.
+        record { setup = a.setup; cpus = a.cpus; l1_tables = a.l1_tables; l0 = a.l0 } };
 
-    ghost invariant = { λ a. IsGeometry (record { setup = a.setup; cpus = a.cpus; l1_tables = a.l1_tables; l0 = a.l0 }) };
+    ghost invariant = { λ a. IsGeometry
+        (record { setup = a.setup; cpus = a.cpus; l1_tables = a.l1_tables; l0 = a.l0 }) };
 
-    ghost inverse = { λ g. record { setup = g.setup; cpus = g.cpus; l1_tables = g.l1_tables; l0 = g.l0 } };
+    ghost inverse = { λ g.
+        record { setup = g.setup; cpus = g.cpus; l1_tables = g.l1_tables; l0 = g.l0 } };
 }
 
 impl Geometry {
@@ -103,8 +106,8 @@ impl Geometry {
         (2 + 546 * self.setup.gigabytes() + self.cpus() as u64 + 2 * self.l1_words()) as usize
     }
 
-    /// The place of the first generation of a size, after the locks and the generations of the smaller
-    /// sizes.
+    /// The place of the first generation of a size, after the locks and the generations of the
+    /// smaller sizes.
     pub fn first_generation(&self, size: Size) -> usize
         ensures place { result ≡ place_of self.now (Generation size 0) }
         ensures range { result ≤ 40000 }
@@ -185,7 +188,8 @@ impl Geometry {
     /// The address of the L1 table of an address, or `None` where its L0 entry is a block.
     fn table_of(&self, pa: u64) -> Option<u64>
         requires { pa < space_bytes self.now.setup }
-        ensures found { IfSome result (λ table. l0_entry (l0_word_of self.now pa) ≡ Some (L0Entry.Table table)) }
+        ensures found { IfSome result
+            (λ table. l0_entry (l0_word_of self.now pa) ≡ Some (L0Entry.Table table)) }
         ensures none { IfNone result (is_table (l0_word_of self.now pa) ≡ false) }
     {
         match decode_l0(self.l0_word(pa)) {
@@ -208,8 +212,8 @@ impl Geometry {
         (table - setup.base()) / 8 + word % setup.table_words()
     }
 
-    /// The number of the L1 word of an address among the L1 words of all tables, or `None` exactly where its
-    /// L0 entry is a block.
+    /// The number of the L1 word of an address among the L1 words of all tables, or `None` exactly
+    /// where its L0 entry is a block.
     pub fn l1_index(&self, pa: u64) -> Option<u64>
         requires { pa < space_bytes self.now.setup }
         ensures value { result ≡ l1_index_of self.now pa }

@@ -1,9 +1,9 @@
 //! The descriptors of granule protection tables, the setup of a protected space with its sizes, and
 //! the places of the words that agents and processors share.
 //!
-//! Source: Arm Architecture Reference Manual (DDI 0487), granule protection tables, GPT level 0 and level
-//! 1 descriptors; names of TF-A's `gpt_rme` are given beside what they mirror. The places are this project's
-//! own. No call takes memory.
+//! Source: Arm Architecture Reference Manual (DDI 0487), granule protection tables, GPT level 0 and
+//! level 1 descriptors; names of TF-A's `gpt_rme` are given beside what they mirror. The places are
+//! this project's own. No call takes memory.
 #![tactic(auto)]
 
 mod canonical;

@@ -21,8 +21,8 @@ pub fn is_space_size(gigabytes: u64) -> bool
     matches!(gigabytes, 4 | 64)
 }
 
-/// Whether one lock bit may cover this number of blocks of 512 MB: 0 for one lock over all, 1, 2, 4 or
-/// 8 (TF-A `RME_GPT_BITLOCK_BLOCK`).
+/// Whether one lock bit may cover this number of blocks of 512 MB: 0 for one lock over all, 1, 2, 4
+/// or 8 (TF-A `RME_GPT_BITLOCK_BLOCK`).
 pub fn is_lock_blocks(blocks: u64) -> bool
     ensures { IsTrue result ↔ IsLockBlocks blocks }
 {
@@ -92,8 +92,8 @@ impl Setup {
     ///
     /// - `gigabytes`: the protected space (PPS), 4 or 64 GB.
     /// - `max`: the largest contiguous size that is used (TF-A `RME_GPT_MAX_BLOCK`).
-    /// - `lock_blocks`: blocks of 512 MB that one lock bit covers (TF-A `RME_GPT_BITLOCK_BLOCK`): 1, 2,
-    ///   4 or 8, or 0 for one lock.
+    /// - `lock_blocks`: blocks of 512 MB that one lock bit covers (TF-A `RME_GPT_BITLOCK_BLOCK`):
+    ///   1, 2, 4 or 8, or 0 for one lock.
     /// - `first`: the value of every generation at the start, at most `GEN_LAST`.
     /// - `ring`: walks that a processor keeps, 1 to `MOST_WALKS`.
     /// - `tables`: L1 tables that there is memory for, at most `MOST_TABLES`.

@@ -78,8 +78,8 @@ impl Generations {
     }
 }
 
-/// Whether a generation is exhausted: too near to `GEN_LAST` for a transition, which raises it up to
-/// twice.
+/// Whether a generation is exhausted: too near to `GEN_LAST` for a transition, which raises it up
+/// to twice.
 pub fn is_worn(value: u64) -> bool
     ensures { result ≡ is_worn value }
 {

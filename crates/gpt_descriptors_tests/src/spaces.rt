@@ -98,8 +98,8 @@ fn sizes_are_those_of_granules_of_4_kb(rt: HostRuntime) {
     assert_eq!(rt; sizes(), Some([4096, 65536, 16384, 32, 512, 8192]));
 }
 
-/// Where the L1 tables begin, the level 0 words, and whether they are good. A table of 4 KB granules
-/// has 0x20000 bytes.
+/// Where the L1 tables begin, the level 0 words, and whether they are good. A table of 4 KB
+/// granules has 0x20000 bytes.
 const LEVEL_0: [(u64, [u64; 4], bool); 13] = [
     (0x8000_0000, [0xf1, 0x8000_0003, 0x91, 0x8002_0003], true),
     (0x8000_0000, [0x01, 0x81, 0xa1, 0xb1], true),
@@ -159,8 +159,8 @@ fn level_0_tables_have_a_word_for_each_gigabyte(rt: HostRuntime) {
     assert_eq!(rt; (few, many), (Some(false), Some(false)));
 }
 
-/// 4 GB, 3 processors, 2 tables: 2 locks, 2048, 128 and 8 generations, 3 duty words, and twice 32768
-/// words.
+/// 4 GB, 3 processors, 2 tables: 2 locks, 2048, 128 and 8 generations, 3 duty words, and twice
+/// 32768 words.
 fn geometry() -> Option<Geometry> {
     let words = [0xf1, 0x8000_0003, 0x91, 0x8002_0003];
     let setup = four_gigabytes(0x8000_0000)?;

@@ -10,4 +10,5 @@ pub record DeviceState : Type 0 where
 
 -- known bytes grow by a prefix of a piece
 abbrev pub AppendsPrefixOf : List ℕ → Option (List ℕ) → Option (List ℕ) → Type 0
-AppendsPrefixOf piece before after = (n : ℕ) × (n ≤ length piece) × Appends before after (take n piece)
+AppendsPrefixOf piece before after =
+    (n : ℕ) × (n ≤ length piece) × Appends before after (take n piece)

@@ -18,9 +18,9 @@ after_read s n = record s { left = drop n s.left; reads = counted s.reads 1 }
 abbrev pub after_read_fault : SourceState → SourceState
 after_read_fault s = record s { reads = counted s.reads 1; faults = counted s.faults 1 }
 
--- `held` are the bytes taken so far, `most` the most that one write takes, `room` how many more can be
--- taken, `failing` the numbers of the writes that fail, counted from 1, `writes` the writes so far and
--- `faults` those of them that failed
+-- `held` are the bytes taken so far, `most` the most that one write takes, `room` how many more can
+-- be taken, `failing` the numbers of the writes that fail, counted from 1, `writes` the writes so
+-- far and `faults` those of them that failed
 pub record SinkState : Type 0 where
   pub held : List ℕ
   pub most : ℕ
@@ -31,7 +31,11 @@ pub record SinkState : Type 0 where
 
 -- after a write that took these bytes
 abbrev pub after_write : SinkState → List ℕ → SinkState
-after_write s bytes = record s { held = s.held ++ bytes; room = s.room - length bytes; writes = counted s.writes 1 }
+after_write s bytes = record s {
+  held = s.held ++ bytes;
+  room = s.room - length bytes;
+  writes = counted s.writes 1;
+}
 
 -- after a write that failed
 abbrev pub after_write_fault : SinkState → SinkState

@@ -131,7 +131,8 @@ impl Model for MemorySink {
       faults = s.faults;
     } };
 
-    ghost invariant = { λ s. (1 ≤ s.most) × (length s.bytes.items + s.room ≤ vec_capacity s.bytes) };
+    ghost invariant = { λ s. (1 ≤ s.most)
+        × (length s.bytes.items + s.room ≤ vec_capacity s.bytes) };
 }
 
 impl MemorySink {
@@ -197,8 +198,10 @@ impl Sink for MemorySink {
     fn write(&mut self, piece: &[u8]) -> Result<usize, Failed>
         requires { 0 < length piece.now }
         ensures bound { IfOk result (λ n. (0 < n) × (n ≤ length piece.now)) }
-        ensures fails { IsErr result ↔ (Contains self.old.failing (self.old.writes + 1) ⊎ (self.old.room ≡ 0)) }
-        ensures least { IfOk result (λ n. n ≡ min (length piece.now) (min self.old.most self.old.room)) }
+        ensures fails { IsErr result
+            ↔ (Contains self.old.failing (self.old.writes + 1) ⊎ (self.old.room ≡ 0)) }
+        ensures least { IfOk result
+            (λ n. n ≡ min (length piece.now) (min self.old.most self.old.room)) }
         ensures after { IfOk result (λ n. self.new ≡ after_write self.old (take n piece.now)) }
         ensures fault { OnErr result (self.new ≡ after_write_fault self.old) }
         ensures grows { self.old.faults ≤ self.new.faults }

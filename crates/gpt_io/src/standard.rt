@@ -8,8 +8,8 @@ use crate::source::{Failed, Source};
 use std::io::{Read, Write};
 use std::marker::Model;
 
-/// A source over any reader, as standard input. As a source it reports nothing of its bytes. Its own
-/// contracts see the count of its faults, and the bytes that the reader reports.
+/// A source over any reader, as standard input. As a source it reports nothing of its bytes. Its
+/// own contracts see the count of its faults, and the bytes that the reader reports.
 ///
 /// What the reader answers is trusted. Each of its errors counts, one by an interrupt too.
 #[derive(Debug, Drop)]
@@ -103,13 +103,14 @@ impl<W: Write> Sink for StdSink<W> {
 
     ghost faults = { λ s. s.faults };
 
-    /// Writes once and flushes. `Failed` comes where the writer answers an error to either, or takes
-    /// nothing. The writer then holds what it held before, and a prefix of the piece at most after it:
-    /// where the flush failed, the bytes that the write took.
+    /// Writes once and flushes. `Failed` comes where the writer answers an error to either, or
+    /// takes nothing. The writer then holds what it held before, and a prefix of the piece at most
+    /// after it: where the flush failed, the bytes that the write took.
     fn write(&mut self, piece: &[u8]) -> Result<usize, Failed>
         requires { 0 < length piece.now }
         ensures bound { IfOk result (λ n. (0 < n) × (n ≤ length piece.now)) }
-        ensures bytes { IfOk result (λ n. Appends self.old.known self.new.known (take n piece.now)) }
+        ensures bytes { IfOk result
+            (λ n. Appends self.old.known self.new.known (take n piece.now)) }
         ensures prefix { OnErr result (AppendsPrefixOf piece.now self.old.known self.new.known) }
 
         // The faults.

@@ -228,8 +228,8 @@ fn bytes_pass_through_a_reader_and_a_writer(rt: HostRuntime) -> Result<(), Fail>
     Ok(())
 }
 
-/// A writer that takes four bytes at a time and passes none on before it is flushed. Its flushes fail
-/// once it is broken.
+/// A writer that takes four bytes at a time and passes none on before it is flushed. Its flushes
+/// fail once it is broken.
 #[derive(Drop)]
 struct Buffering {
     waiting: usize,

@@ -26,16 +26,20 @@ pub enum InputError {
 /// `Fault` comes at the first read that fails, and `Memory` where the bytes of a read that did not
 /// fail can't be kept.
 pub fn read_input<S: Source>(alloc: Global, source: &mut S) -> Result<Vec<u8>, InputError>
-    ensures taken { IfOk result (λ bytes. Consumes (S.left source.old) (S.left source.new) bytes.items) }
+    ensures taken { IfOk result
+        (λ bytes. Consumes (S.left source.old) (S.left source.new) bytes.items) }
     ensures bound { IfOk result (λ bytes. length bytes.items ≤ INPUT_LIMIT + 1) }
-    ensures ended { IfOk result (λ bytes. (length bytes.items ≡ INPUT_LIMIT + 1) ⊎ IsAtEnd (S.left source.new)) }
+    ensures ended { IfOk result
+        (λ bytes. (length bytes.items ≡ INPUT_LIMIT + 1) ⊎ IsAtEnd (S.left source.new)) }
 
     // On every way out.
-    ensures limit { (bytes : List ℕ) × (length bytes ≤ INPUT_LIMIT + 1) × Consumes (S.left source.old) (S.left source.new) bytes }
+    ensures limit { (bytes : List ℕ) × (length bytes ≤ INPUT_LIMIT + 1)
+        × Consumes (S.left source.old) (S.left source.new) bytes }
 
     // The faults.
     ensures ok { OnOk result (S.faults source.new ≡ S.faults source.old) }
-    ensures fault { IsErrOf result InputError.Fault → Rose (S.faults source.old) (S.faults source.new) }
+    ensures fault { IsErrOf result InputError.Fault
+        → Rose (S.faults source.old) (S.faults source.new) }
     ensures memory { IsErrOf result InputError.Memory → S.faults source.new ≡ S.faults source.old }
 {
     let mut bytes = Vec::new(alloc);

@@ -11,7 +11,8 @@ use gpt_io::{Failed, Sink};
 #[tactic(auto, using(crate::proofs::Known::Appends_at))]
 pub fn deliver<K: Sink>(sink: &mut K, text: &[u8]) -> bool
     ensures whole { OnTrue result (Appends (K.held sink.old) (K.held sink.new) text.now) }
-    ensures cut { OnFalse result ((n : ℕ) × (n < length text.now) × Appends (K.held sink.old) (K.held sink.new) (take n text.now)) }
+    ensures cut { OnFalse result ((n : ℕ) × (n < length text.now)
+        × Appends (K.held sink.old) (K.held sink.new) (take n text.now)) }
 
     // The faults.
     ensures ok { OnTrue result (K.faults sink.new ≡ K.faults sink.old) }

@@ -15,7 +15,7 @@ use Rattle.history.specs.declared.entry.Entry.TheVariants as entry
 use Rattle.history.specs.Entries.{granule_in}
 use Rattle.history.specs.States.{State, is_open}
 
--- the granule of a task's address, granules having so many bytes
+-- the granule of a task's address, granules having this number of bytes
 abbrev pub granule_of : ℕ → Task → Option ℕ
 granule_of bytes (task.Delegate pa source) = Some (pa / bytes)
 granule_of bytes (task.Undelegate pa source) = Some (pa / bytes)
@@ -44,13 +44,16 @@ abbrev pub is_seen : Answer → Bool
 is_seen (answer.Seen access) = true
 is_seen a = false
 
--- a transition that found this GPI is answered so: Perm with another GPI than the needed one, Worn with that one
+-- a transition that found this GPI is answered so: Perm with another GPI than the needed one, Worn
+-- with that one
 abbrev pub IsRefusal : Task → Gpi → Answer → Type 0
-IsRefusal t found (answer.Perm given) = IsTrue (is_transition t) × (needed t ≢ Some found) × (given ≡ found)
+IsRefusal t found (answer.Perm given) =
+    IsTrue (is_transition t) × (needed t ≢ Some found) × (given ≡ found)
 IsRefusal t found (answer.Worn size value) = needed t ≡ Some found
 IsRefusal t found a = ⊥
 
--- the changes of a transition: one of a delegate, two of an undelegate, which passes through no access
+-- the changes of a transition: one of a delegate, two of an undelegate, which passes through no
+-- access
 abbrev pub IsChange : Task → Gpi → Gpi → Type 0
 IsChange (task.Delegate pa source) from to = (from ≡ gpi.NonSecure) × (to ≡ own_of source)
 IsChange (task.Undelegate pa source) from to =
@@ -68,15 +71,18 @@ is_still v = false
 -- the answer is of an access at an L1 table with this GPI and this permission
 abbrev pub IsSeen : Answer → Gpi → Bool → Type 0
 IsSeen (answer.Seen access) gpi allowed =
-    (access.gpi ≡ gpi) × (access.allowed ≡ allowed) × (access.level ≡ 1) × (is_still access.via ≡ false)
+    (access.gpi ≡ gpi) × (access.allowed ≡ allowed)
+    × (access.level ≡ 1) × (is_still access.via ≡ false)
 IsSeen a gpi allowed = ⊥
+
+-- the map gives the granule this GPI, and no change of it is open
+abbrev pub RestsWith : State → ℕ → Gpi → Type 0
+RestsWith s granule gpi = (slice_get s.map granule ≡ Some gpi) × (is_open s granule ≡ false)
 
 -- what the state must be for the entry
 abbrev pub StateAllows : State → Entry → Type 0
-StateAllows s (entry.Refused caller call granule found) =
-    (slice_get s.map granule ≡ Some found) × (is_open s granule ≡ false)
-StateAllows s (entry.Changed caller call granule from to) =
-    (slice_get s.map granule ≡ Some from) × (is_open s granule ≡ false)
+StateAllows s (entry.Refused caller call granule found) = RestsWith s granule found
+StateAllows s (entry.Changed caller call granule from to) = RestsWith s granule from
 StateAllows s (entry.Settled caller call granule) = IsTrue (is_open s granule)
 StateAllows s (entry.Looked caller call granule space gpi allowed) =
     (slice_get s.map granule ≡ Some gpi) ⊎ Contains s.opened (granule, gpi)
@@ -89,7 +95,8 @@ CallAllows t a (entry.Settled caller call granule) = IsTrue (is_done a) × IsTru
 CallAllows t a (entry.Looked caller call granule space gpi allowed) =
     IsLookIn t space × (allowed ≡ permits_of gpi space) × IsSeen a gpi allowed
 
--- A legal entry: its granule is the task's and one of the map's, and the state and the call allow it.
+-- A legal entry: its granule is the task's and one of the map's, and the state and the call allow
+-- it.
 pub record IsLegal (bytes : ℕ) (s : State) (t : Task) (a : Answer) (e : Entry) : Type 0 where
   pub granule : granule_of bytes t ≡ Some (granule_in e)
   pub inside : granule_in e < length s.map

@@ -22,12 +22,17 @@ is_open s granule = list_any (λ pair. pair.0 == granule) s.opened
 abbrev pub without : ℕ → List (ℕ × Gpi) → List (ℕ × Gpi)
 without granule pairs = filter (λ pair. not (pair.0 == granule)) pairs
 
--- the state after an entry: a change sets its granule and opens it, its completion closes it
+-- the state after a change, which sets its granule and opens it
+abbrev pub after_change : State → ℕ → Gpi → Gpi → State
+after_change s granule from to =
+    record { map = slice_set s.map granule to; opened = s.opened ++ (granule, from) ∷ [] }
+
+-- the state after an entry: that after a change, and its completion closes the granule
 abbrev pub after_entry : State → Entry → State
 after_entry s (entry.Refused caller call granule found) = s
-after_entry s (entry.Changed caller call granule from to) =
-    record { map = slice_set s.map granule to; opened = s.opened ++ (granule, from) ∷ [] }
-after_entry s (entry.Settled caller call granule) = record { map = s.map; opened = without granule s.opened }
+after_entry s (entry.Changed caller call granule from to) = after_change s granule from to
+after_entry s (entry.Settled caller call granule) =
+    record { map = s.map; opened = without granule s.opened }
 after_entry s (entry.Looked caller call granule space gpi allowed) = s
 
 -- the state after a list of entries

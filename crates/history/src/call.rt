@@ -31,7 +31,8 @@ pub enum Answer {
     Seen(Access),
 }
 
-/// A checked access: whether it was allowed, by which GPI, and at which level of the tables that stood.
+/// A checked access: whether it was allowed, by which GPI, and at which level of the tables that
+/// stood.
 #[derive(Clone, Copy, Debug, PartialEq, Eq)]
 pub struct Access {
     pub allowed: bool,
@@ -40,7 +41,8 @@ pub struct Access {
     pub via: Via,
 }
 
-/// How an access found its GPI. `lo`, `hi` and `at` are loaded generations, `tag` that of a kept walk.
+/// How an access found its GPI. `lo`, `hi` and `at` are loaded generations, `tag` that of a kept
+/// walk.
 #[derive(Clone, Copy, Debug, PartialEq, Eq)]
 pub enum Via {
     /// From an L0 block.
@@ -50,7 +52,8 @@ pub enum Via {
         reach: Reach,
         at: u64,
     },
-    /// From a walk of this reach, between two loads of its generation. No kept walk covered the address.
+    /// From a walk of this reach, between two loads of its generation. No kept walk covered the
+    /// address.
     Cold {
         reach: Reach,
         lo: u64,

@@ -10,12 +10,16 @@ ghost use Rattle.history.specs.Entries.{changes_granule};
 ghost use Rattle.history.specs.States.{State, state_after};
 ghost use Rattle.history.specs.Calls.{IsLegalHistory};
 
-/// The law of completion: in a legal history, an access after the completion of a change
-/// of its granule, and before the next change of it, has the map's GPI and is allowed by it alone. So
-/// it is never granted by the former space.
+/// The law of completion: in a legal history, an access after the completion of a change of its
+/// granule, and before the next change of it, has the map's GPI and is allowed by it alone. So it
+/// is never granted by the former space.
 pub fn settled_means_final()
-    ensures { (bytes : ℕ) (tasks : List (List Task)) (answers : List (List Answer)) (s : State) (before between after : List Entry) (c k granule other call : ℕ) (space : Space) (gpi : Gpi) (allowed : Bool)
-        → IsLegalHistory bytes tasks answers s (before ++ (Entry.Settled c k granule ∷ (between ++ Entry.Looked other call granule space gpi allowed ∷ after)))
+    ensures { (bytes : ℕ) (tasks : List (List Task)) (answers : List (List Answer)) (s : State)
+        (before between after : List Entry) (c k granule other call : ℕ)
+        (space : Space) (gpi : Gpi) (allowed : Bool)
+        → IsLegalHistory bytes tasks answers s (before ++ (Entry.Settled c k granule
+        ∷ (between ++ Entry.Looked other call granule space gpi allowed ∷ after)))
         → list_any (changes_granule granule) between ≡ false
-        → (slice_get (state_after s (before ++ Entry.Settled c k granule ∷ between)).map granule ≡ Some gpi) × (allowed ≡ permits_of gpi space) }
+        → (slice_get (state_after s (before ++ Entry.Settled c k granule ∷ between)).map granule
+        ≡ Some gpi) × (allowed ≡ permits_of gpi space) }
 {}

@@ -1,5 +1,5 @@
-//! Histories of a plain map from granule to GPI: what callers ask and are answered, the entries that
-//! are of it, which entries are legal in which state, and a replay that tests them one by one.
+//! Histories of a plain map from granule to GPI: what callers ask and are answered, the entries
+//! that are of it, which entries are legal in which state, and a replay that tests them one by one.
 #![tactic(auto)]
 
 mod call;

@@ -1,10 +1,10 @@
-ghost use Rattle.std.specs.Prelude.{◌≡◌, ◌↔◌, ◌<◌, IsTrue, IfOk, OnOk, OnErr, Contains, length, slice_get, slice_set, ◌++◌, ◌∷◌, [], Some, false};
+ghost use Rattle.std.specs.Prelude.{◌≡◌, ◌↔◌, ◌<◌, IsTrue, IfOk, OnOk, OnErr, Contains, length};
 ghost use Rattle.gpt_descriptors.specs.Sizes.{small_granule};
 ghost use Rattle.history.specs.declared.call.Task.{Task};
 ghost use Rattle.history.specs.declared.call.Answer.{Answer};
 ghost use Rattle.history.specs.Entries.{granule_in};
-ghost use Rattle.history.specs.States.{start, is_open, without, after_entry};
-ghost use Rattle.history.specs.Legality.{IsLegal, StateAllows};
+ghost use Rattle.history.specs.States.{start, is_open, without, after_change, after_entry};
+ghost use Rattle.history.specs.Legality.{IsLegal, RestsWith, StateAllows};
 
 use crate::call::{Answer, Task};
 use crate::entry::Entry;
@@ -15,8 +15,8 @@ use region_plan::RunMap;
 use std::alloc::{AllocError, Global};
 use std::marker::Model;
 
-/// The state that a history leaves: a map from granule to GPI, and for each change that isn't complete
-/// its granule and the former GPI.
+/// The state that a history leaves: a map from granule to GPI, and for each change that isn't
+/// complete its granule and the former GPI.
 #[derive(Debug, Drop)]
 pub struct Replay {
     map: RunMap,
@@ -89,7 +89,7 @@ impl Replay {
     /// Whether the map gives the granule this GPI, and no change of it is open.
     fn rests_with(&self, granule: u64, gpi: Gpi) -> bool
         requires { granule < length self.now.map }
-        ensures { IsTrue result ↔ ((slice_get self.now.map granule ≡ Some gpi) × (is_open self.now granule ≡ false)) }
+        ensures { IsTrue result ↔ RestsWith self.now granule gpi }
     {
         self.map.get(granule) == gpi && !self.is_open(granule)
     }
@@ -112,7 +112,7 @@ impl Replay {
     /// Changes a granule of the map and opens it. A refusal changes nothing.
     fn change(&mut self, granule: u64, from: Gpi, to: Gpi) -> Result<(), AllocError>
         requires { granule < length self.old.map }
-        ensures ok { OnOk result (self.new ≡ record { map = slice_set self.old.map granule to; opened = self.old.opened ++ (granule, from) ∷ [] }) }
+        ensures ok { OnOk result (self.new ≡ after_change self.old granule from to) }
         ensures err { OnErr result (self.new ≡ self.old) }
     {
         self.opened.push((granule, from))?;
@@ -136,7 +136,8 @@ impl Replay {
     /// Goes to the state after an entry that is legal for some task and answer. A refusal changes
     /// nothing.
     pub fn apply(&mut self, entry: &Entry) -> Result<(), AllocError>
-        requires { (task : Task) × (answer : Answer) × IsLegal small_granule self.old task answer entry.now }
+        requires { (task : Task) × (answer : Answer)
+            × IsLegal small_granule self.old task answer entry.now }
         ensures ok { OnOk result (self.new ≡ after_entry self.old entry.now) }
         ensures err { OnErr result (self.new ≡ self.old) }
     {

@@ -1,5 +1,5 @@
--- The acts on the generation words. A change of a granule raises the generation of each region around
--- it, so that a walk which was kept from before can be seen to be old.
+-- The acts on the generation words. A change of a granule raises the generation of each region
+-- around it, so that a walk which was kept from before can be seen to be old.
 use Rattle.std.specs.Prelude.{ℕ, ◌+◌}
 use Rattle.gpt_descriptors.specs.declared.size.Size.{Size}
 use Rattle.gpt_descriptors.specs.Places.{GeometryData, gen_place_of}

@@ -1,6 +1,6 @@
-//! Invalidation: generations of the regions around an address, raised after a change in place of the
-//! TLB invalidation by physical address of TF-A's `gpt_rme` (DDI 0487, `TLBI PAALLOS` and `RPALOS`).
-//! No call takes memory.
+//! Invalidation: generations of the regions around an address, raised after a change in place of
+//! the TLB invalidation by physical address of TF-A's `gpt_rme` (DDI 0487, `TLBI PAALLOS` and
+//! `RPALOS`). No call takes memory.
 #![tactic(auto)]
 
 mod generation;

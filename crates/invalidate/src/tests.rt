@@ -2,7 +2,7 @@ use super::*;
 use gpt_descriptors::{MaxBlock, Setup, l0_good};
 use std::test::Fail;
 
-/// A space of so many gigabytes, all blocks.
+/// A space of this number of gigabytes, all blocks.
 fn all_blocks(gigabytes: u64) -> Result<Geometry, Fail> {
     let setup = Setup::new(gigabytes, MaxBlock::Zero, 0, 0, 1, 0, 0).ok_or("refused")?;
     let l0 = [0xf1; 64];
@@ -15,7 +15,8 @@ fn all_blocks(gigabytes: u64) -> Result<Geometry, Fail> {
 
 #[test]
 fn generations_stand_where_they_were_worked_out_by_hand(rt: HostRuntime) -> Result<(), Fail> {
-    // Gigabytes, size, address and place: 2 locks, then 512, 32 and 2 generations for each gigabyte.
+    // Gigabytes, size, address and place: 2 locks, then 512, 32 and 2 generations for each
+    // gigabyte.
     let table = [
         (4, Size::Two, 0, 2),
         (4, Size::Two, 0x1f_ffff, 2),

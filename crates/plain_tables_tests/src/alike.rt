@@ -52,8 +52,8 @@ impl Random {
     }
 }
 
-/// One region in each of so many equal parts of 4 GB, in a mixed order. Some fill their part, so that
-/// neighbours of one GPI are one run.
+/// One region in each of the `parts` equal parts of 4 GB, in a mixed order. Some fill their part,
+/// so that neighbours of one GPI are one run.
 fn random_regions(alloc: Global, random: &mut Random, parts: u64) -> Result<Vec<Region>, AllocError>
     requires low { 0 < parts }
     requires high { parts ≤ 64 }

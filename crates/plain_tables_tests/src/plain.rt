@@ -48,7 +48,8 @@ fn next_edge(setup: &Setup, region: &Region, granule: u64, next: u64) -> u64
     requires { granule < next }
     ensures ahead { granule < result }
     ensures bound { result ≤ next }
-    ensures same { (k : ℕ) → granule ≤ k → k < result → is_in setup.now k region.now ≡ is_in setup.now granule region.now }
+    ensures same { (k : ℕ) → granule ≤ k → k < result
+        → is_in setup.now k region.now ≡ is_in setup.now granule region.now }
 {
     let bytes = setup.granule_bytes();
     let first = region.base / bytes;
@@ -68,7 +69,8 @@ fn run_end(setup: &Setup, regions: &[Region], granule: u64, end: u64) -> u64
     requires { granule < end }
     ensures ahead { granule < result }
     ensures bound { result ≤ end }
-    ensures same { (k : ℕ) → granule ≤ k → k < result → region_map setup.now regions.now k ≡ region_map setup.now regions.now granule }
+    ensures same { (k : ℕ) → granule ≤ k → k < result
+        → region_map setup.now regions.now k ≡ region_map setup.now regions.now granule }
 {
     let mut next = end;
     for region in regions {
@@ -81,7 +83,8 @@ fn run_end(setup: &Setup, regions: &[Region], granule: u64, end: u64) -> u64
 fn common_gpi(setup: &Setup, regions: &[Region], first: u64, end: u64) -> Option<Gpi>
     requires { first ≤ end }
     ensures one { IfSome result (λ gpi. gpi ≡ region_map setup.now regions.now first) }
-    ensures exact { is_some result ≡ one_gpi (region_map setup.now regions.now) first (end - first) }
+    ensures exact { is_some result
+        ≡ one_gpi (region_map setup.now regions.now) first (end - first) }
 {
     let gpi = granule_gpi(setup, regions, first);
     let mut at = first;
@@ -98,7 +101,9 @@ fn common_gpi(setup: &Setup, regions: &[Region], first: u64, end: u64) -> Option
 #[tactic(auto, unfolding(gpt_descriptors::specs::Canonical::is_one_block))]
 fn is_block(setup: &Setup, regions: &[Region], size: Size, w: u64) -> bool
     requires { w < 2 ^ 40 }
-    ensures { result ≡ is_one_block setup.now (region_map setup.now regions.now) size (w / words_of setup.now size) }
+    ensures { result
+        ≡ is_one_block setup.now (region_map setup.now regions.now) size
+        (w / words_of setup.now size) }
 {
     let words = setup.words_of(size);
     let first = 16 * (w / words * words);

@@ -9,7 +9,8 @@ use Rattle.region_plan.specs.Runs.{gpi_after, BeginAtZero, AreApart}
 pub record IsRunAt (granule : ℕ) (runs : List Run) (i : ℕ) : Type 0 where
   pub within : i < length runs
   pub begun : (d : Run) → (slice_index_or runs i d).first ≤ granule
-  pub later : (k : ℕ) (d : Run) → i < k → k < length runs → granule < (slice_index_or runs k d).first
+  pub later : (k : ℕ) (d : Run) → i < k → k < length runs
+      → granule < (slice_index_or runs k d).first
 
 -- runs of the granules below the end, of which granule g has the GPI f g
 pub record Covers (end : ℕ) (f : ℕ → Gpi) (runs : List Run) : Type 0 where
@@ -36,7 +37,8 @@ abbrev pub BeginsWith : Gpi → List Run → Type 0
 BeginsWith one [] = ⊥
 BeginsWith one (run ∷ runs) = run.gpi ≡ one
 
--- runs later than a granule that became new: they give each of its successors what runs later than own gave it
+-- runs later than a granule that became new: they give each of its successors what runs later than
+-- own gave it
 pub record Follows (granule end : ℕ) (own new : Gpi) (runs later : List Run) : Type 0 where
   pub apart : AreApart (granule + 1) (Some new) end later
   pub gpis : (g : ℕ) → granule < g → g < end → gpi_after new later g ≡ gpi_after own runs g

@@ -11,7 +11,8 @@ pub record PlanData : Type 0 where
   pub regions : List Region
 
 -- the regions are accepted; their map, whether each gigabyte needs a table, and how many do
-pub record PlanKeeps (s : SetupData) (regions : List Region) (gpis : List Gpi) (tabled : List Bool) (need : ℕ) : Type 0 where
+pub record PlanKeeps (s : SetupData) (regions : List Region)
+    (gpis : List Gpi) (tabled : List Bool) (need : ℕ) : Type 0 where
   pub accepted : refusal s regions ≡ None
   pub gpis_are : gpis ≡ region_gpis s regions
   pub tabled_are : (q : ℕ) → q < 64 → slice_index_or tabled q false ≡ needs_table regions q

@@ -9,7 +9,8 @@ use Rattle.region_plan.specs.Regions.{first_granule, granule_count, is_granule_k
 
 -- base or size isn't a multiple of the granule, or the region is empty
 abbrev pub is_unaligned : SetupData → Region → Bool
-is_unaligned s r = not (r.base % granule_bytes s == 0) || not (r.size % granule_bytes s == 0) || (r.size == 0)
+is_unaligned s r =
+    not (r.base % granule_bytes s == 0) || not (r.size % granule_bytes s == 0) || (r.size == 0)
 
 -- the region ends above the protected space
 abbrev pub is_outside : SetupData → Region → Bool
@@ -17,7 +18,9 @@ is_outside s r = nat_lt (space_bytes s) (r.base + r.size)
 
 -- a block region whose base or size isn't a multiple of a gigabyte
 abbrev pub is_no_block : Region → Bool
-is_no_block r = not (is_granule_kind r.kind) && (not (r.base % region_bytes == 0) || not (r.size % region_bytes == 0))
+is_no_block r =
+    not (is_granule_kind r.kind)
+    && (not (r.base % region_bytes == 0) || not (r.size % region_bytes == 0))
 
 -- two regions share a granule
 abbrev pub do_share : SetupData → Region → Region → Bool
@@ -25,13 +28,15 @@ do_share s a b =
     nat_lt (first_granule s a) (first_granule s b + granule_count s b)
     && nat_lt (first_granule s b) (first_granule s a + granule_count s a)
 
--- the first two regions that share a granule: the least i, then the least j after it, counted from n
+-- the first two regions that share a granule: the least i, then the least j, counted from n
 abbrev pub first_overlap : SetupData → ℕ → List Region → Option (ℕ × ℕ)
 first_overlap s n [] = None
 first_overlap s n (r ∷ rs) =
-    option_or (option_map (λ k. (n, n + 1 + k)) (position (do_share s r) rs)) (first_overlap s (n + 1) rs)
+    option_or (option_map (λ k. (n, n + 1 + k)) (position (do_share s r) rs))
+    (first_overlap s (n + 1) rs)
 
--- what the rules before that on overlaps say: 1 to 256 regions, each aligned, inside and of a fitting kind
+-- what the rules before that on overlaps say: 1 to 256 regions, each aligned, inside and of a
+-- fitting kind
 pub record ArePlaced (s : SetupData) (regions : List Region) : Type 0 where
   pub some : (length regions == 0) ≡ false
   pub few : length regions ≤ 256
@@ -43,6 +48,10 @@ pub record ArePlaced (s : SetupData) (regions : List Region) : Type 0 where
 abbrev pub where_true : Bool → PlanError → Option PlanError
 where_true true e = Some e
 where_true false e = None
+
+-- more tables are needed than there are
+abbrev pub where_lacking : ℕ → ℕ → Option PlanError
+where_lacking tables need = where_true (nat_lt tables need) (refused.NoTables need)
 
 -- the first answer that there is
 abbrev pub first_some : {A : Type 0} → List (Option A) → Option A
@@ -58,7 +67,7 @@ rules s regions =
     ∷ option_map refused.Outside (position (is_outside s) regions)
     ∷ option_map refused.NotBlock (position is_no_block regions)
     ∷ option_map (λ p. refused.Overlap p.0 p.1) (first_overlap s 0 regions)
-    ∷ where_true (nat_lt s.tables (tables_needed s regions)) (refused.NoTables (tables_needed s regions))
+    ∷ where_lacking s.tables (tables_needed s regions)
     ∷ []
 
 -- the first rule that fails

@@ -26,7 +26,8 @@ abbrev pub gpi_or_any : Option Region → Gpi
 gpi_or_any (Some r) = r.gpi
 gpi_or_any None = gpi.Any
 
--- The region map: the GPI of a granule is that of the region that holds it, and any access where none does.
+-- The region map: the GPI of a granule is that of the region that holds it, and any access where
+-- none does.
 unfoldable pub region_map : SetupData → List Region → ℕ → Gpi
 region_map s regions g = gpi_or_any (find (is_in s g) regions)
 
@@ -49,7 +50,8 @@ needs_table regions q = list_any (λ r. is_granule_kind r.kind && touches q r) r
 -- the gigabytes below q that need a table, in rising order
 unfoldable pub tabled_below : List Region → ℕ → List ℕ
 tabled_below regions zero = []
-tabled_below regions (suc q) = tabled_below regions q ++ (if needs_table regions q then q ∷ [] else [])
+tabled_below regions (suc q) =
+    tabled_below regions q ++ (if needs_table regions q then q ∷ [] else [])
 
 -- how many tables stand before that of gigabyte q
 abbrev pub tables_below : List Region → ℕ → ℕ

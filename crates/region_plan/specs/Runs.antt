@@ -23,7 +23,8 @@ BeginAtZero end (run ∷ runs) = run.first ≡ 0
 abbrev pub AreApart : ℕ → Option Gpi → ℕ → List Run → Type 0
 AreApart n before end [] = Unit {0}
 AreApart n before end (run ∷ runs) =
-    (n ≤ run.first) × (run.first < end) × (before ≢ Some run.gpi) × AreApart (run.first + 1) (Some run.gpi) end runs
+    (n ≤ run.first) × (run.first < end) × (before ≢ Some run.gpi)
+    × AreApart (run.first + 1) (Some run.gpi) end runs
 
 -- runs of the granules below the end, of which none could be longer
 pub record AreRuns (end : ℕ) (runs : List Run) : Type 0 where

@@ -21,7 +21,8 @@ fn space_granules(setup: &Setup) -> u64
 fn granules_of(setup: &Setup, region: &Region) -> (u64, u64)
     requires { is_outside setup.now region.now ≡ false }
     ensures first { result.0 ≡ first_granule setup.now region.now }
-    ensures end { result.1 ≡ first_granule setup.now region.now + granule_count setup.now region.now }
+    ensures end { result.1
+        ≡ first_granule setup.now region.now + granule_count setup.now region.now }
     ensures low { result.0 ≤ result.1 }
     ensures high { result.1 ≤ space_granules setup.now }
 {
@@ -42,7 +43,8 @@ fn sorted(alloc: Global, regions: &[Region]) -> Result<Vec<Region>, AllocError>
 /// The region map as runs, where no two regions share a granule.
 fn lay(alloc: Global, setup: &Setup, regions: &[Region]) -> Result<Option<RunMap>, AllocError>
     requires { ArePlaced setup.now regions.now }
-    ensures apart { IfOk result (λ found. OnSome found (first_overlap setup.now 0 regions.now ≡ None)) }
+    ensures apart { IfOk result
+        (λ found. OnSome found (first_overlap setup.now 0 regions.now ≡ None)) }
     ensures map { IfOk result (λ found. IfSome found (λ m. m ≡ region_gpis setup.now regions.now)) }
 {
     let size = space_granules(setup);

@@ -54,13 +54,14 @@ fn gpi_of_region(region: Option<Region>) -> Gpi
 
 impl Plan {
     /// Holds the regions against the setup: the plan, or the first rule that refuses them. Each
-    /// region's base and size are bytes; indices count from 0. At most 256 regions are accepted. Want of
-    /// memory is answered only where no rule refuses them.
+    /// region's base and size are bytes; indices count from 0. At most 256 regions are accepted.
+    /// Want of memory is answered only where no rule refuses them.
     pub fn plan(alloc: Global, regions: &[Region], setup: &Setup) -> Result<Plan, PlanError>
         ensures plan { IfOk result (λ p. p ≡ record { setup = setup.now; regions = regions.now }) }
         ensures accepted { OnOk result (refusal setup.now regions.now ≡ None) }
         ensures refused { IfErr result (λ e. IsRefusal e (refusal setup.now regions.now)) }
-        ensures given { IfErr result (λ e. (refusal setup.now regions.now ≡ None) ⊎ (refusal setup.now regions.now ≡ Some e)) }
+        ensures given { IfErr result (λ e.
+            (refusal setup.now regions.now ≡ None) ⊎ (refusal setup.now regions.now ≡ Some e)) }
     {
         match first_misplaced(setup, regions) {
             Some(error) => return Err(error),
@@ -125,7 +126,8 @@ impl Plan {
     /// region is any access.
     pub fn gpi(&self, pa: u64) -> Gpi
         requires { pa < space_bytes self.now.setup }
-        ensures { result ≡ region_map self.now.setup self.now.regions (pa / granule_bytes self.now.setup) }
+        ensures { result
+            ≡ region_map self.now.setup self.now.regions (pa / granule_bytes self.now.setup) }
     {
         self.map.get(pa / self.setup.granule_bytes())
     }

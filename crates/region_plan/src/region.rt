@@ -1,13 +1,15 @@
 use gpt_descriptors::Gpi;
 
-/// How a region is described: as whole L0 blocks of 1 GB, or granule by granule through an L1 table.
+/// How a region is described: as whole L0 blocks of 1 GB, or granule by granule through an L1
+/// table.
 #[derive(Clone, Copy, Debug, PartialEq, Eq)]
 pub enum Kind {
     Block,
     Granule,
 }
 
-/// A region of the protected space with one GPI: the byte address of its base, and its size in bytes.
+/// A region of the protected space with one GPI: the byte address of its base, and its size in
+/// bytes.
 #[derive(Clone, Copy, Debug, PartialEq, Eq)]
 pub struct Region {
     pub base: u64,

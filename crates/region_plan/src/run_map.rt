@@ -1,8 +1,8 @@
-ghost use Rattle.std.specs.Prelude.{◌≡◌, ◌≢◌, ◌↔◌, ℕ, ◌+◌, ◌<◌, ◌≤◌, ◌++◌, List, IsTrue, IfOk, OnOk, OnErr, Some, None, length, replicate, map, take, drop, slice_get, slice_set, vec_len, vec_capacity};
-ghost use Rattle.std.specs.List.{insert, range_with_len};
+ghost use Rattle.std.specs.Prelude.{◌≡◌, ◌≢◌, ◌↔◌, ℕ, ◌+◌, ◌<◌, ◌≤◌, ◌++◌, List, IsTrue, IfOk, OnOk, OnErr, Some, None, length, replicate, take, drop, slice_get, slice_set, vec_len, vec_capacity};
+ghost use Rattle.std.specs.List.{insert};
 ghost use Rattle.gpi_values.specs.declared.gpi.Gpi.{Gpi};
 ghost use Rattle.gpt_descriptors.specs.Sizes.{space_granules};
-ghost use Rattle.region_plan.specs.Regions.{region_map};
+ghost use Rattle.region_plan.specs.Regions.{region_gpis};
 ghost use Rattle.region_plan.specs.Runs.{AreApart, AreRuns, AreMaximalRuns, runs_map};
 ghost use Rattle.region_plan.specs.InnerRuns.{IsRunAt, Covers, Follows, Leads, Reaches, then_one, last_gpi, begin_of, BeginsWith};
 
@@ -79,7 +79,8 @@ fn begin_of(runs: &[Run], end: u64) -> u64
 /// Adds the granules from `at` up to `end`, with one GPI.
 pub fn add_granules(runs: &mut Vec<Run>, at: u64, end: u64, gpi: Gpi) -> Result<(), AllocError>
     requires { at ≤ end }
-    ensures { OnOk result ((f : ℕ → Gpi) → Covers at f runs.old.items → Covers end (then_one at f gpi) runs.new.items) }
+    ensures { OnOk result ((f : ℕ → Gpi)
+        → Covers at f runs.old.items → Covers end (then_one at f gpi) runs.new.items) }
 {
     if at == end {
         return Ok(());
@@ -111,7 +112,8 @@ fn part_after(runs: &mut Vec<Run>, next: usize, granule: u64, own: Gpi, new: Gpi
     requires other { own ≢ new }
     requires apart { AreApart (granule + 1) (Some own) size (drop next runs.old.items) }
     ensures before { take next runs.new.items ≡ take next runs.old.items }
-    ensures follows { Follows granule size own new (drop next runs.old.items) (drop next runs.new.items) }
+    ensures follows { Follows granule size own new
+        (drop next runs.old.items) (drop next runs.new.items) }
     ensures len { vec_len runs.new ≤ vec_len runs.old + 1 }
     ensures place { next ≤ vec_len runs.new }
     ensures capacity { vec_capacity runs.old ≤ vec_capacity runs.new }
@@ -127,13 +129,14 @@ fn part_after(runs: &mut Vec<Run>, next: usize, granule: u64, own: Gpi, new: Gpi
     }
 }
 
-/// Sets the last granule of run `at` and those before it: the granule gets a run of its own, or goes
-/// on with the run before it where that has the GPI.
+/// Sets the last granule of run `at` and those before it: the granule gets a run of its own, or
+/// goes on with the run before it where that has the GPI.
 fn set_last(runs: &mut Vec<Run>, at: usize, granule: u64, gpi: Gpi)
     requires place { at < vec_len runs.old }
     requires room { vec_len runs.old < vec_capacity runs.old }
     requires own { Reaches granule gpi (take (at + 1) runs.old.items) }
-    ensures { (leading : List Run) × (runs.new.items ≡ leading ++ drop (at + 1) runs.old.items) × Leads granule gpi (take (at + 1) runs.old.items) leading }
+    ensures { (leading : List Run) × (runs.new.items ≡ leading ++ drop (at + 1) runs.old.items)
+        × Leads granule gpi (take (at + 1) runs.old.items) leading }
 {
     if runs[at].first < granule {
         insert_run(
@@ -152,7 +155,7 @@ fn set_last(runs: &mut Vec<Run>, at: usize, granule: u64, gpi: Gpi)
 }
 
 impl RunMap {
-    /// The map of so many granules that these runs give.
+    /// The map of this number of granules that these runs give.
     pub(crate) fn of_runs(size: u64, runs: Vec<Run>) -> RunMap
         requires { AreRuns size runs.items }
         ensures { result ≡ runs_map size runs.items }
@@ -160,7 +163,7 @@ impl RunMap {
         RunMap { size, runs }
     }
 
-    /// A map of so many granules, with any access everywhere.
+    /// A map of this number of granules, with any access everywhere.
     pub fn new(alloc: Global, granules: u64) -> Result<RunMap, AllocError>
         ensures { IfOk result (λ m. m ≡ replicate granules Gpi.Any) }
     {
@@ -174,7 +177,7 @@ impl RunMap {
 
     /// The region map of a plan, over the granules of its protected space.
     pub fn of(alloc: Global, plan: &Plan) -> Result<RunMap, AllocError>
-        ensures map { IfOk result (λ m. m ≡ map (region_map plan.now.setup plan.now.regions) (range_with_len 0 (space_granules plan.now.setup))) }
+        ensures map { IfOk result (λ m. m ≡ region_gpis plan.now.setup plan.now.regions) }
         ensures size { IfOk result (λ m. length m ≡ space_granules plan.now.setup) }
     {
         plan.map().copy(alloc)

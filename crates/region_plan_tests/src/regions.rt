@@ -6,7 +6,7 @@ use std::alloc::{AllocError, Global};
 use std::process::Abort;
 use std::test::Fail;
 
-/// A setup of 4 GB with so many tables.
+/// A setup of 4 GB with this number of tables.
 fn setup_with(rt: &impl Abort, tables: u64) -> Setup
     ensures { result ≡ record {
       gigabytes = 4;
@@ -39,7 +39,7 @@ fn block(base: u64, size: u64) -> Region {
     }
 }
 
-/// So many regions of one granule, each `step` bytes behind the one before.
+/// `count` regions of one granule, each `step` bytes after the one before.
 fn many(alloc: Global, count: u64, step: u64) -> Result<Vec<Region>, AllocError>
     requires { count * step < 18446744073709551616 }
 {

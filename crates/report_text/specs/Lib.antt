@@ -2,3 +2,4 @@ pub mod Runs
 pub mod TablesText
 pub mod RunText
 pub mod RunParts
+pub mod InnerAdding

@@ -4,20 +4,21 @@ use Rattle.std.specs.List.{flat_map, range_with_len}
 use Rattle.std.specs.Int.{bit_at}
 use Rattle.std.specs.Fmt.{signed_decimal}
 use Rattle.gpi_values.specs.declared.gpi.Space.{Space}
-use Rattle.gpi_values.specs.declared.gpi.Space.TheVariants as space
 use Rattle.gpi_values.specs.Names.{space_name_of}
 use Rattle.gpt_descriptors.specs.declared.size.Size.{Size}
+use Rattle.gpt_descriptors.specs.Sizes.{table_words}
 use Rattle.gpt_descriptors.specs.Places.{GeometryData}
 use Rattle.history.specs.declared.call.Answer.{Answer}
 use Rattle.history.specs.Legality.{is_seen}
 use Rattle.rmm_calls.specs.Codes.{code_of}
 use Rattle.line_text.specs.Lines.{count, address}
 use Rattle.report_text.specs.TablesText.{line}
-use Rattle.report_text.specs.RunText.{size_name, space_number, held_line, generation_line, granule_lines}
+use Rattle.report_text.specs.RunText.{size_name, all_spaces, space_number, held_line, generation_line, granule_lines}
 
 -- the code of a monitor call and its word, each after a space
 abbrev pub code_text : Bool → Answer → List ℕ
-code_text smc a = if smc && not (is_seen a) then codes " code " ++ signed_decimal (code_of a) else []
+code_text smc a =
+    if smc && not (is_seen a) then codes " code " ++ signed_decimal (code_of a) else []
 
 -- the line of a generation of this value
 abbrev pub changed_line : Size → ℕ → ℕ → ℕ → List ℕ
@@ -32,15 +33,21 @@ set_line pa word bit space =
 -- the lines of granule k of the sixteen of a line word
 unfoldable pub set_lines : ℕ → ℕ → ℕ → List ℕ
 set_lines pa word k =
-    flat_map (λ space. set_line pa word (4 * k + space_number space) space) (space.Secure ∷ space.NonSecure ∷ space.Root ∷ space.Realm ∷ [])
+    flat_map (λ space. set_line pa word (4 * k + space_number space) space) all_spaces
 
--- the lines of so many granules of a line word, the first of which has this number
+-- the lines of n granules of a line word, the first of which has this number
 unfoldable pub word_lines : ℕ → ℕ → ℕ → ℕ → List ℕ
-word_lines bytes word first n = flat_map (λ k. set_lines ((first + k) * bytes) word k) (range_with_len 0 n)
+word_lines bytes word first n =
+    flat_map (λ k. set_lines ((first + k) * bytes) word k) (range_with_len 0 n)
 
--- the lines of so many granules from one on
+-- the lines of n granules from one on
 unfoldable pub granules_text : GeometryData → List ℕ → ℕ → ℕ → List ℕ
 granules_text g words first n = flat_map (granule_lines g words) (range_with_len first n)
+
+-- the lines of gigabyte q
+abbrev pub gigabyte_text : GeometryData → List ℕ → ℕ → List ℕ
+gigabyte_text g words q =
+    granules_text g words (16 * (q * table_words g.setup)) (16 * table_words g.setup)
 
 -- the first locks that are held
 unfoldable pub held_upto : List ℕ → ℕ → List ℕ

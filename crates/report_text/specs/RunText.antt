@@ -1,6 +1,6 @@
--- The text of a run: what each call was answered, which calls are left, which locks are held, the tables,
--- the generations that have changed, and the resident lines.
-use Rattle.std.specs.Prelude.{◌≡◌, ℕ, ◌+◌, ◌-◌, ◌*◌, ◌%◌, ◌≤◌, Bool, true, false, not, ◌&&◌, List, [], ◌∷◌, ◌++◌, length, map, take, drop, slice_index, codes, Option, Some, None, ◌==◌, if◌then◌else◌}
+-- The text of a run: what each call was answered, which calls are left, which locks are held, the
+-- tables, the generations that have changed, and the resident lines.
+use Rattle.std.specs.Prelude.{◌≡◌, ℕ, ◌+◌, ◌-◌, ◌*◌, ◌%◌, Bool, true, false, not, ◌&&◌, List, [], ◌∷◌, ◌++◌, length, map, slice_index, codes, Option, Some, None, ◌==◌, if◌then◌else◌}
 use Rattle.std.specs.List.{flat_map, range_with_len}
 use Rattle.std.specs.Int.{bit_at}
 use Rattle.std.specs.Fmt.{signed_decimal}
@@ -60,7 +60,8 @@ via_fields via.Still = codes "still" ∷ []
 via_fields (via.Hit reach at) = codes "hit" ∷ reach_name reach ∷ count at ∷ []
 via_fields (via.Cold reach lo hi) = codes "cold" ∷ reach_name reach ∷ count lo ∷ count hi ∷ []
 via_fields (via.Missed reach tag at next lo hi) =
-    codes "missed" ∷ reach_name reach ∷ count tag ∷ count at ∷ reach_name next ∷ count lo ∷ count hi ∷ []
+    codes "missed" ∷ reach_name reach ∷ count tag ∷ count at
+    ∷ reach_name next ∷ count lo ∷ count hi ∷ []
 
 abbrev pub answer_fields : Answer → List (List ℕ)
 answer_fields answer.Inval = codes "inval" ∷ []
@@ -68,12 +69,15 @@ answer_fields answer.Unknown = codes "unknown" ∷ []
 answer_fields (answer.Perm found) = codes "perm" ∷ name_of found ∷ []
 answer_fields (answer.Worn size value) = codes "worn" ∷ size_name size ∷ count value ∷ []
 answer_fields (answer.Done generations) =
-    codes "done" ∷ count generations.two ∷ count generations.thirty_two ∷ count generations.five_twelve ∷ []
-answer_fields (answer.Seen access) = verdict_name access.allowed ∷ name_of access.gpi ∷ count access.level ∷ via_fields access.via
+    codes "done" ∷ count generations.two ∷ count generations.thirty_two
+    ∷ count generations.five_twelve ∷ []
+answer_fields (answer.Seen access) =
+    verdict_name access.allowed ∷ name_of access.gpi ∷ count access.level ∷ via_fields access.via
 
 -- the code of a monitor call, after an answer that is none of an access
 abbrev pub code_fields : Bool → Answer → List (List ℕ)
-code_fields smc a = if smc && not (is_seen a) then codes "code" ∷ signed_decimal (code_of a) ∷ [] else []
+code_fields smc a =
+    if smc && not (is_seen a) then codes "code" ∷ signed_decimal (code_of a) ∷ [] else []
 
 -- call k of caller c
 abbrev pub call_name : ℕ → ℕ → List ℕ
@@ -100,7 +104,8 @@ script_calls (script.Cpu looks) = map (λ look. false) looks
 abbrev pub answers_text : ℕ → ℕ → List Bool → List Answer → List ℕ
 answers_text c k [] answers = []
 answers_text c k (smc ∷ calls) [] = []
-answers_text c k (smc ∷ calls) (a ∷ answers) = call_line c k smc a ++ answers_text c (k + 1) calls answers
+answers_text c k (smc ∷ calls) (a ∷ answers) =
+    call_line c k smc a ++ answers_text c (k + 1) calls answers
 
 -- the lines of one caller
 abbrev pub caller_text : ℕ → Script → List Answer → List ℕ
@@ -110,7 +115,8 @@ caller_text c s answers = answers_text c 0 (script_calls s) answers
 abbrev pub callers_text : ℕ → List Script → List (List Answer) → List ℕ
 callers_text c [] answers = []
 callers_text c (s ∷ scripts) [] = []
-callers_text c (s ∷ scripts) (own ∷ answers) = caller_text c s own ++ callers_text (c + 1) scripts answers
+callers_text c (s ∷ scripts) (own ∷ answers) =
+    caller_text c s own ++ callers_text (c + 1) scripts answers
 
 -- a caller with calls left
 abbrev pub left_line : ℕ → ℕ → List ℕ
@@ -132,18 +138,24 @@ abbrev pub held_text : List ℕ → List ℕ
 held_text words = flat_map (held_line words) (range_with_len 0 128)
 
 abbrev pub tables_part_text : GeometryData → List ℕ → List ℕ
-tables_part_text g words = words_text (record { setup = g.setup; l0 = l0_words g; l1 = table_part g words })
+tables_part_text g words =
+    words_text (record { setup = g.setup; l0 = l0_words g; l1 = table_part g words })
 
 -- the generations that aren't the first one, the smallest size first
 abbrev pub generation_line : GeometryData → List ℕ → Size → ℕ → List ℕ
 generation_line g words z block =
     if generation_word g words z block == g.setup.first then []
-    else line (codes "gen" ∷ size_name z ∷ count block ∷ count (generation_word g words z block) ∷ [])
+    else line (codes "gen" ∷ size_name z ∷ count block
+    ∷ count (generation_word g words z block) ∷ [])
 
 abbrev pub generations_text : GeometryData → List ℕ → Size → List ℕ
-generations_text g words z = flat_map (generation_line g words z) (range_with_len 0 (blocks_in_region z * g.setup.gigabytes))
+generations_text g words z =
+    flat_map (generation_line g words z) (range_with_len 0 (blocks_in_region z * g.setup.gigabytes))
 
 -- the resident lines, by granule and then by space
+abbrev pub all_spaces : List Space
+all_spaces = space.Secure ∷ space.NonSecure ∷ space.Root ∷ space.Realm ∷ []
+
 abbrev pub space_number : Space → ℕ
 space_number space.Secure = 0
 space_number space.NonSecure = 1
@@ -156,16 +168,17 @@ is_set_at words (Some place) bit = bit_at (slice_index words place) bit == 1
 
 abbrev pub is_resident : GeometryData → List ℕ → ℕ → Space → Bool
 is_resident g words granule space =
-    is_set_at words (line_place_of g (granule * granule_bytes g.setup)) (4 * (granule % 16) + space_number space)
+    is_set_at words (line_place_of g (granule * granule_bytes g.setup))
+    (4 * (granule % 16) + space_number space)
 
 abbrev pub resident_line : GeometryData → List ℕ → ℕ → Space → List ℕ
 resident_line g words granule space =
     if is_resident g words granule space
-    then line (codes "line" ∷ address (granule * granule_bytes g.setup) ∷ space_name_of space ∷ []) else []
+    then line (codes "line" ∷ address (granule * granule_bytes g.setup) ∷ space_name_of space ∷ [])
+    else []
 
 abbrev pub granule_lines : GeometryData → List ℕ → ℕ → List ℕ
-granule_lines g words granule =
-    flat_map (resident_line g words granule) (space.Secure ∷ space.NonSecure ∷ space.Root ∷ space.Realm ∷ [])
+granule_lines g words granule = flat_map (resident_line g words granule) all_spaces
 
 abbrev pub lines_text : GeometryData → List ℕ → List ℕ
 lines_text g words = flat_map (granule_lines g words) (range_with_len 0 (space_granules g.setup))
@@ -179,7 +192,8 @@ state_text g words =
 
 -- ---- the whole report
 
--- an outcome of a scenario: a list of answers for each script, none longer than its calls, and all words
+-- an outcome of a scenario: a list of answers for each script, none longer than its calls, and all
+-- words
 pub record FitsScenario (s : Scenario) (o : Outcome) : Type 0 where
   pub answers : AreAnswersOf s.scripts o.answers
   pub words : length o.words ≡ word_count o.geometry
@@ -187,5 +201,5 @@ pub record FitsScenario (s : Scenario) (o : Outcome) : Type 0 where
 -- the report of a run
 unfoldable pub report_of_run : Mode → Scenario → Outcome → List ℕ
 report_of_run m s o =
-    report_line (mode_name m) ++ callers_text 0 s.scripts o.answers ++ left_text 0 s.scripts o.answers
-    ++ state_text o.geometry o.words ++ end_line
+    report_line (mode_name m) ++ callers_text 0 s.scripts o.answers
+    ++ left_text 0 s.scripts o.answers ++ state_text o.geometry o.words ++ end_line

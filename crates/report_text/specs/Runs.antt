@@ -2,19 +2,23 @@
 use Rattle.std.specs.Prelude.{◌≡◌, ◌≢◌, ◌≤◌, ℕ, ◌+◌, List, [], ◌∷◌, replicate, ◌==◌, if◌then◌else◌}
 use Rattle.std.specs.List.{flat_map}
 
--- so many equal words, the first of which has this index
+-- `count` equal words, the first of which has this index
 pub record Run : Type 0 where
   pub first : ℕ
   pub count : ℕ
   pub word : ℕ
 
--- the runs of a list after so many equal words: the run goes on with a word that is equal, and ends at any other
+abbrev pub run_of : ℕ → ℕ → ℕ → Run
+run_of first count word = record { first = first; count = count; word = word }
+
+-- the runs of a list after `count` equal words: the run goes on with a word that is equal, and ends
+-- at any other
 abbrev pub runs_after : ℕ → ℕ → ℕ → List ℕ → List Run
-runs_after first count word [] = record { first = first; count = count; word = word } ∷ []
+runs_after first count word [] = run_of first count word ∷ []
 runs_after first count word (next ∷ rest) =
     if next == word
     then runs_after first (count + 1) word rest
-    else record { first = first; count = count; word = word } ∷ runs_after (first + count) 1 next rest
+    else run_of first count word ∷ runs_after (first + count) 1 next rest
 
 -- the runs of a list whose first word has this index
 abbrev pub runs_from : ℕ → List ℕ → List Run

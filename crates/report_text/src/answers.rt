@@ -1,7 +1,7 @@
-ghost use Rattle.std.specs.Prelude.{◌≡◌, ◌++◌, ◌∷◌, [], OnOk, string_bytes, codes};
-ghost use Rattle.std.specs.List.{join_with_byte};
+ghost use Rattle.std.specs.Prelude.{◌≡◌, OnOk};
 ghost use Rattle.report_text.specs.RunText.{size_name, reach_name, verdict_name, via_fields, answer_fields, call_line};
 ghost use Rattle.report_text.specs.RunParts.{code_text};
+ghost use Rattle.report_text.specs.InnerAdding.{Adds, spaced};
 
 use gpi_values::gpi_name;
 use gpt_descriptors::{Reach, Size};
@@ -38,7 +38,7 @@ fn name_of_verdict(allowed: bool) -> &'static str
 
 /// Appends how an access found its GPI, after a space.
 fn push_via(out: &mut String, via: Via) -> Result<(), AllocError>
-    ensures { OnOk result (string_bytes out.new ≡ string_bytes out.old ++ 32 ∷ join_with_byte 32 (via_fields via)) }
+    ensures { OnOk result (Adds out.old (spaced (via_fields via)) out.new) }
 {
     match via {
         Via::Still => out.push_str(" still"),
@@ -68,7 +68,7 @@ fn push_via(out: &mut String, via: Via) -> Result<(), AllocError>
 /// Appends what an access saw, after a space.
 #[tactic(auto, using(crate::proofs::AnswerLemmas::join_via))]
 fn push_access(out: &mut String, access: &Access) -> Result<(), AllocError>
-    ensures { OnOk result (string_bytes out.new ≡ string_bytes out.old ++ 32 ∷ join_with_byte 32 (answer_fields (Answer.Seen access.now))) }
+    ensures { OnOk result (Adds out.old (spaced (answer_fields (Answer.Seen access.now))) out.new) }
 {
     let verdict = name_of_verdict(access.allowed);
     let gpi = gpi_name(access.gpi);
@@ -79,7 +79,7 @@ fn push_access(out: &mut String, access: &Access) -> Result<(), AllocError>
 
 /// Appends what a call was answered, after a space.
 fn push_answer(out: &mut String, answer: &Answer) -> Result<(), AllocError>
-    ensures { OnOk result (string_bytes out.new ≡ string_bytes out.old ++ 32 ∷ join_with_byte 32 (answer_fields answer.now)) }
+    ensures { OnOk result (Adds out.old (spaced (answer_fields answer.now)) out.new) }
 {
     match answer {
         Answer::Inval => out.push_str(" inval"),
@@ -104,7 +104,7 @@ fn push_answer(out: &mut String, answer: &Answer) -> Result<(), AllocError>
 
 /// Appends the code that a monitor call returns, after a space; nothing for other calls.
 fn push_code(out: &mut String, monitor: bool, answer: &Answer) -> Result<(), AllocError>
-    ensures { OnOk result (string_bytes out.new ≡ string_bytes out.old ++ code_text monitor answer.now) }
+    ensures { OnOk result (Adds out.old (code_text monitor answer.now) out.new) }
 {
     if !monitor || matches!(answer, Answer::Seen(_)) {
         return Ok(());
@@ -122,7 +122,7 @@ pub fn push_call(
     monitor: bool,
     answer: &Answer,
 ) -> Result<(), AllocError>
-    ensures { OnOk result (string_bytes out.new ≡ string_bytes out.old ++ call_line caller call monitor answer.now) }
+    ensures { OnOk result (Adds out.old (call_line caller call monitor answer.now) out.new) }
 {
     write!(out, "{caller}.{call}")?;
     push_answer(out, answer)?;

@@ -1,6 +1,7 @@
-ghost use Rattle.std.specs.Prelude.{◌≡◌, ◌≤◌, ◌<◌, ◌-◌, ◌++◌, OnOk, Some, string_bytes, length, slice_get};
+ghost use Rattle.std.specs.Prelude.{◌≡◌, ◌≤◌, ◌<◌, ◌-◌, OnOk, Some, length, slice_get};
 ghost use Rattle.scenario_text.specs.Calls.{calls_of, AreAnswersOf};
 ghost use Rattle.report_text.specs.RunText.{script_calls, caller_text, callers_text, left_line, left_text};
+ghost use Rattle.report_text.specs.InnerAdding.{Adds};
 
 use crate::answers::push_call;
 use gpi_values::Listed;
@@ -40,7 +41,7 @@ pub fn push_caller(
     answers: &[Answer],
 ) -> Result<(), AllocError>
     requires { length answers.now ≤ calls_of script.now }
-    ensures { OnOk result (string_bytes out.new ≡ string_bytes out.old ++ caller_text caller script.now answers.now) }
+    ensures { OnOk result (Adds out.old (caller_text caller script.now answers.now) out.new) }
 {
     for k in 0..answers.len() {
         let monitor = is_monitor_call(script, k);
@@ -56,7 +57,7 @@ pub fn push_callers(
     answers: &[Listed<Answer>],
 ) -> Result<(), AllocError>
     requires { AreAnswersOf scripts.now answers.now }
-    ensures { OnOk result (string_bytes out.new ≡ string_bytes out.old ++ callers_text 0 scripts.now answers.now) }
+    ensures { OnOk result (Adds out.old (callers_text 0 scripts.now answers.now) out.new) }
 {
     for k in 0..scripts.len() {
         push_caller(out, k as u64, &scripts[k], answers[k].as_slice())?;
@@ -66,7 +67,7 @@ pub fn push_callers(
 
 /// Appends the line of a caller that has calls left.
 fn push_left(out: &mut String, caller: u64, left: usize) -> Result<(), AllocError>
-    ensures { OnOk result (string_bytes out.new ≡ string_bytes out.old ++ left_line caller left) }
+    ensures { OnOk result (Adds out.old (left_line caller left) out.new) }
 {
     if left == 0 {
         return Ok(());
@@ -81,7 +82,7 @@ pub fn push_lefts(
     answers: &[Listed<Answer>],
 ) -> Result<(), AllocError>
     requires { AreAnswersOf scripts.now answers.now }
-    ensures { OnOk result (string_bytes out.new ≡ string_bytes out.old ++ left_text 0 scripts.now answers.now) }
+    ensures { OnOk result (Adds out.old (left_text 0 scripts.now answers.now) out.new) }
 {
     for k in 0..scripts.len() {
         let left = call_count(&scripts[k]) - answers[k].as_slice().len();

@@ -36,7 +36,9 @@ pub fn caller_lines(
 ) -> Result<Vec<u8>, AllocError>
     requires fits { FitsScenario scenario.now outcome.now }
     requires caller { caller < length scenario.now.scripts }
-    ensures { (script : TheScript) (answers : List TheAnswer) → slice_get scenario.now.scripts caller ≡ Some script → slice_get outcome.now.answers caller ≡ Some answers
+    ensures { (script : TheScript) (answers : List TheAnswer)
+        → slice_get scenario.now.scripts caller ≡ Some script
+        → slice_get outcome.now.answers caller ≡ Some answers
         → IfOk result (λ text. text.items ≡ caller_text caller script answers) }
 {
     let mut out = String::new(alloc);
@@ -50,8 +52,8 @@ pub fn caller_lines(
     Ok(out.into_bytes())
 }
 
-/// What the shared words show: the locks that are held, the tables, the generations that aren't the first
-/// one, and the resident lines.
+/// What the shared words show: the locks that are held, the tables, the generations that aren't the
+/// first one, and the resident lines.
 pub fn state_lines(alloc: Global, geometry: &Geometry, words: &[u64]) -> Result<Vec<u8>, AllocError>
     requires { length words.now ≡ word_count geometry.now }
     ensures { IfOk result (λ text. text.items ≡ state_text geometry.now words.now) }

@@ -1,8 +1,9 @@
-ghost use Rattle.std.specs.Prelude.{◌≡◌, ◌+◌, ◌*◌, ◌/◌, ◌<◌, ◌≤◌, ◌^◌, ◌++◌, OnOk, Some, string_bytes, length};
+ghost use Rattle.std.specs.Prelude.{◌≡◌, ◌+◌, ◌*◌, ◌/◌, ◌<◌, ◌≤◌, ◌^◌, OnOk, Some, length};
 ghost use Rattle.gpt_descriptors.specs.Sizes.{region_bytes, table_words};
 ghost use Rattle.gpt_descriptors.specs.Places.{Generation, blocks_in_region, line_place_of, place_of, word_count, table_part};
 ghost use Rattle.report_text.specs.RunText.{held_line, tables_part_text, generations_text, lines_text, state_text};
-ghost use Rattle.report_text.specs.RunParts.{changed_line, set_line, set_lines, word_lines, granules_text, held_upto};
+ghost use Rattle.report_text.specs.RunParts.{changed_line, set_line, set_lines, word_lines, gigabyte_text, held_upto};
+ghost use Rattle.report_text.specs.InnerAdding.{Adds};
 
 use crate::answers::name_of_size;
 use crate::level::Level;
@@ -20,7 +21,7 @@ const GRANULES: u64 = 16;
 /// Appends the line of a lock, where it is held.
 fn push_lock(out: &mut String, words: &[u64], lock: u64) -> Result<(), AllocError>
     requires { lock / 64 < length words.now }
-    ensures { OnOk result (string_bytes out.new ≡ string_bytes out.old ++ held_line words.now lock) }
+    ensures { OnOk result (Adds out.old (held_line words.now lock) out.new) }
 {
     if (words[(lock / 64) as usize] >> (lock % 64)) % 2 == 1 {
         write!(out, "held {lock}\n")?;
@@ -31,7 +32,7 @@ fn push_lock(out: &mut String, words: &[u64], lock: u64) -> Result<(), AllocErro
 /// Appends the lines of the locks that are held, among the first ones.
 fn push_locks(out: &mut String, words: &[u64], locks: u64) -> Result<(), AllocError>
     requires { locks ≤ 64 * length words.now }
-    ensures { OnOk result (string_bytes out.new ≡ string_bytes out.old ++ held_upto words.now locks) }
+    ensures { OnOk result (Adds out.old (held_upto words.now locks) out.new) }
 {
     for lock in 0..locks {
         push_lock(out, words, lock)?;
@@ -54,7 +55,7 @@ fn words_of_tables<'a>(geometry: &Geometry, words: &'a [u64]) -> &'a [u64]
 /// Appends the lines of the tables.
 fn push_table_part(out: &mut String, geometry: &Geometry, words: &[u64]) -> Result<(), AllocError>
     requires { length words.now ≡ word_count geometry.now }
-    ensures { OnOk result (string_bytes out.new ≡ string_bytes out.old ++ tables_part_text geometry.now words.now) }
+    ensures { OnOk result (Adds out.old (tables_part_text geometry.now words.now) out.new) }
 {
     let size = geometry.setup().table_words() as usize;
     let tables = geometry.l1_tables() as usize;
@@ -84,7 +85,7 @@ fn push_generation(
     value: u64,
     first: u64,
 ) -> Result<(), AllocError>
-    ensures { OnOk result (string_bytes out.new ≡ string_bytes out.old ++ changed_line size block value first) }
+    ensures { OnOk result (Adds out.old (changed_line size block value first) out.new) }
 {
     if value == first {
         return Ok(());
@@ -101,7 +102,7 @@ fn push_generations(
     size: Size,
 ) -> Result<(), AllocError>
     requires { length words.now ≡ word_count geometry.now }
-    ensures { OnOk result (string_bytes out.new ≡ string_bytes out.old ++ generations_text geometry.now words.now size) }
+    ensures { OnOk result (Adds out.old (generations_text geometry.now words.now size) out.new) }
 {
     let first = geometry.setup().first();
     let (start, count) = generations_of(geometry, size);
@@ -121,7 +122,7 @@ fn push_line(
     space: Space,
 ) -> Result<(), AllocError>
     requires { bit < 64 }
-    ensures { OnOk result (string_bytes out.new ≡ string_bytes out.old ++ set_line address word bit space) }
+    ensures { OnOk result (Adds out.old (set_line address word bit space) out.new) }
 {
     if (word >> bit) % 2 == 1 {
         let space = space_name(space);
@@ -133,7 +134,7 @@ fn push_line(
 /// Appends the resident lines of a granule of a line word, by space.
 fn push_granule(out: &mut String, address: u64, word: u64, granule: u64) -> Result<(), AllocError>
     requires { granule < 16 }
-    ensures { OnOk result (string_bytes out.new ≡ string_bytes out.old ++ set_lines address word granule) }
+    ensures { OnOk result (Adds out.old (set_lines address word granule) out.new) }
 {
     push_line(out, address, word, 4 * granule, Space::Secure)?;
     push_line(out, address, word, 4 * granule + 1, Space::NonSecure)?;
@@ -141,7 +142,8 @@ fn push_granule(out: &mut String, address: u64, word: u64, granule: u64) -> Resu
     push_line(out, address, word, 4 * granule + 3, Space::Realm)
 }
 
-/// Appends the resident lines of the first granules of a line word, the first of which has this number.
+/// Appends the resident lines of the first granules of a line word, the first of which has this
+/// number.
 fn push_granules(
     out: &mut String,
     bytes: u64,
@@ -152,7 +154,7 @@ fn push_granules(
     requires granules { granules ≤ 16 }
     requires space { first + granules < 2 ^ 40 }
     requires bytes { bytes ≤ 65536 }
-    ensures { OnOk result (string_bytes out.new ≡ string_bytes out.old ++ word_lines bytes word first granules) }
+    ensures { OnOk result (Adds out.old (word_lines bytes word first granules) out.new) }
 {
     for k in 0..granules {
         push_granule(out, (first + k) * bytes, word, k)?;
@@ -164,7 +166,7 @@ fn push_granules(
 fn push_word(out: &mut String, bytes: u64, word: u64, first: u64) -> Result<(), AllocError>
     requires space { first + 16 < 2 ^ 40 }
     requires bytes { bytes ≤ 65536 }
-    ensures { OnOk result (string_bytes out.new ≡ string_bytes out.old ++ word_lines bytes word first 16) }
+    ensures { OnOk result (Adds out.old (word_lines bytes word first 16) out.new) }
 {
     if word == 0 {
         return Ok(());
@@ -172,7 +174,8 @@ fn push_word(out: &mut String, bytes: u64, word: u64, first: u64) -> Result<(), 
     push_granules(out, bytes, word, first, GRANULES)
 }
 
-/// Appends the resident lines of a gigabyte with a table, whose line words stand from this place on.
+/// Appends the resident lines of a gigabyte with a table, whose line words stand from this place
+/// on.
 fn push_table_lines(
     out: &mut String,
     geometry: &Geometry,
@@ -183,7 +186,7 @@ fn push_table_lines(
     requires words { length words.now ≡ word_count geometry.now }
     requires inside { gigabyte < geometry.now.setup.gigabytes }
     requires place { line_place_of geometry.now (gigabyte * region_bytes) ≡ Some start }
-    ensures { OnOk result (string_bytes out.new ≡ string_bytes out.old ++ granules_text geometry.now words.now (16 * (gigabyte * table_words geometry.now.setup)) (16 * table_words geometry.now.setup)) }
+    ensures { OnOk result (Adds out.old (gigabyte_text geometry.now words.now gigabyte) out.new) }
 {
     let setup = geometry.setup();
     let size = setup.table_words();
@@ -205,7 +208,7 @@ fn push_gigabyte(
     requires words { length words.now ≡ word_count geometry.now }
     requires inside { gigabyte < geometry.now.setup.gigabytes }
     requires small { gigabyte < 64 }
-    ensures { OnOk result (string_bytes out.new ≡ string_bytes out.old ++ granules_text geometry.now words.now (16 * (gigabyte * table_words geometry.now.setup)) (16 * table_words geometry.now.setup)) }
+    ensures { OnOk result (Adds out.old (gigabyte_text geometry.now words.now gigabyte) out.new) }
 {
     match geometry.line_place(gigabyte * REGION_BYTES) {
         Some(start) => push_table_lines(out, geometry, words, gigabyte, start),
@@ -216,7 +219,7 @@ fn push_gigabyte(
 /// Appends the resident lines, by granule and then by space.
 fn push_lines(out: &mut String, geometry: &Geometry, words: &[u64]) -> Result<(), AllocError>
     requires { length words.now ≡ word_count geometry.now }
-    ensures { OnOk result (string_bytes out.new ≡ string_bytes out.old ++ lines_text geometry.now words.now) }
+    ensures { OnOk result (Adds out.old (lines_text geometry.now words.now) out.new) }
 {
     for gigabyte in 0..geometry.setup().gigabytes() {
         push_gigabyte(out, geometry, words, gigabyte)?;
@@ -227,7 +230,7 @@ fn push_lines(out: &mut String, geometry: &Geometry, words: &[u64]) -> Result<()
 /// Appends the state that the shared words show.
 pub fn push_state(out: &mut String, geometry: &Geometry, words: &[u64]) -> Result<(), AllocError>
     requires { length words.now ≡ word_count geometry.now }
-    ensures { OnOk result (string_bytes out.new ≡ string_bytes out.old ++ state_text geometry.now words.now) }
+    ensures { OnOk result (Adds out.old (state_text geometry.now words.now) out.new) }
 {
     push_locks(out, words, LOCKS)?;
     push_table_part(out, geometry, words)?;

@@ -1,6 +1,7 @@
-ghost use Rattle.std.specs.Prelude.{◌≡◌, ℕ, ◌+◌, ◌*◌, ◌≤◌, ◌++◌, ◌∷◌, IfOk, OnOk, string_bytes, length, drop, slice_index, codes};
-ghost use Rattle.report_text.specs.Runs.{runs_from, AreRunsMaximal};
-ghost use Rattle.report_text.specs.TablesText.{run_line, runs_text, tables_text, words_text, report_line, end_line, report_of_tables};
+ghost use Rattle.std.specs.Prelude.{◌≡◌, ℕ, ◌+◌, ◌*◌, ◌≤◌, ◌∷◌, IfOk, OnOk, length, drop, slice_index};
+ghost use Rattle.report_text.specs.Runs.{run_of, runs_from, AreRunsMaximal};
+ghost use Rattle.report_text.specs.TablesText.{run_line, runs_text, tables_text, report_of_tables};
+ghost use Rattle.report_text.specs.InnerAdding.{Adds};
 
 use crate::level::Level;
 use gpt_descriptors::count_tables;
@@ -15,7 +16,7 @@ fn push_run(
     count: u64,
     word: u64,
 ) -> Result<(), AllocError>
-    ensures { OnOk result (string_bytes out.new ≡ string_bytes out.old ++ run_line level (record { first = first; count = count; word = word })) }
+    ensures { OnOk result (Adds out.old (run_line level (run_of first count word)) out.new) }
 {
     match level {
         Level::Zero => write!(out, "l0 {first} {count} 0x{word:x}\n")?,
@@ -29,7 +30,9 @@ fn equal_words(words: &[u64]) -> usize
     requires { 1 ≤ length words.now }
     ensures low { 1 ≤ result }
     ensures high { result ≤ length words.now }
-    ensures run { (first : ℕ) → runs_from first words.now ≡ record { first = first; count = result; word = slice_index words.now 0 } ∷ runs_from (first + result) (drop result words.now) }
+    ensures run { (first : ℕ) → runs_from first words.now
+        ≡ run_of first result (slice_index words.now 0)
+        ∷ runs_from (first + result) (drop result words.now) }
 {
     let word = words[0];
     let mut count = 1;
@@ -44,7 +47,7 @@ fn equal_words(words: &[u64]) -> usize
 
 /// Appends the lines of the maximal runs of these words.
 pub fn push_runs(out: &mut String, level: Level, words: &[u64]) -> Result<(), AllocError>
-    ensures { OnOk result (string_bytes out.new ≡ string_bytes out.old ++ runs_text level words.now) }
+    ensures { OnOk result (Adds out.old (runs_text level words.now) out.new) }
 {
     let mut at = 0;
     while at < words.len() {
@@ -55,7 +58,7 @@ pub fn push_runs(out: &mut String, level: Level, words: &[u64]) -> Result<(), Al
     Ok(())
 }
 
-/// Appends the lines of `tables` level 1 tables of so many words each.
+/// Appends the lines of `tables` level 1 tables of `size` words each.
 pub fn push_tables(
     out: &mut String,
     size: usize,
@@ -63,7 +66,7 @@ pub fn push_tables(
     tables: usize,
 ) -> Result<(), AllocError>
     requires { length words.now ≡ tables * size }
-    ensures { OnOk result (string_bytes out.new ≡ string_bytes out.old ++ tables_text size words.now 0 tables) }
+    ensures { OnOk result (Adds out.old (tables_text size words.now 0 tables) out.new) }
 {
     for k in 0..tables {
         let table = &words[k * size..];

@@ -388,7 +388,8 @@ fn the_last_words_of_the_largest_geometry_are_reported(rt: HostRuntime) -> Resul
     let geometry = Geometry::new(setup, 32, l0.as_slice());
     assert_eq!(rt; geometry.words(), 559_266);
     let mut words = vec![in alloc; 0u64; geometry.words()]?;
-    // A lock, a generation of each size, a duty word, which no line shows, an L1 word and a line word: the last of each.
+    // A lock, a generation of each size, a duty word, which no line shows, an L1 word and a line
+    // word: the last of each.
     let last = [
         (1usize, 0x8000_0000_0000_0000u64),
         (32_769, 7),

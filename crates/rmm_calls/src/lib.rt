@@ -1,5 +1,5 @@
-//! The granule calls that the monitor offers to the Realm world (TF-A, RMMD): who may make them, and
-//! with which code they return. No call takes memory.
+//! The granule calls that the monitor offers to the Realm world (TF-A, RMMD): who may make them,
+//! and with which code they return. No call takes memory.
 #![tactic(auto)]
 
 ghost use Rattle.std.specs.Prelude.{◌≡◌, false};
@@ -19,9 +19,9 @@ pub fn admits(world: World) -> bool
     matches!(world, World::Realm)
 }
 
-/// The code that a granule call returns with (TF-A, `rmmd_svc.h`): 0 where it is done, -1 where it isn't
-/// known, -2 for a bad address, -3 where the granule has another GPI than the needed one. -100, for a
-/// worn generation, is this project's own. An access returns no code.
+/// The code that a granule call returns with (TF-A, `rmmd_svc.h`): 0 where it is done, -1 where it
+/// isn't known, -2 for a bad address, -3 where the granule has another GPI than the needed one.
+/// -100, for a worn generation, is this project's own. An access returns no code.
 pub fn code(answer: &Answer) -> i32
     requires { is_seen answer.now ≡ false }
     ensures { result ≡ code_of answer.now }

@@ -1,6 +1,7 @@
-//! What a map kept as runs costs, for `bench/runs.sh`, which times it: `of` makes the region map of 256 regions 1,000
-//! times; `few` judges and applies 100,000 entries of changes of 64 granules; `many` as many of granules that are all
-//! apart. It prints how many maps or entries were as they should be.
+//! What a map kept as runs costs, for `bench/runs.sh`, which times it: `of` makes the region map of
+//! 256 regions 1,000 times; `few` judges and applies 100,000 entries of changes of 64 granules;
+//! `many` as many of granules that are all apart. It prints how many maps or entries were as they
+//! should be.
 #![tactic(auto)]
 
 ghost use Rattle.std.specs.Prelude.{◌≤◌, ◌<◌, IfOk};
@@ -108,7 +109,8 @@ fn maps(alloc: Global, plan: &Plan) -> Result<u64, AllocError> {
     Ok(whole)
 }
 
-/// Changes of `apart` granules, one after another, until there are 100,000 entries: how many were legal.
+/// Changes of `apart` granules, one after another, until there are 100,000 entries: how many were
+/// legal.
 fn entries(alloc: Global, plan: &Plan, apart: u64) -> Result<u64, AllocError>
     requires { (1 ≤ apart) × (apart ≤ 50000) }
 {

@@ -1,5 +1,5 @@
-//! The words that agents and processors share, and the acts on them. One act is one operation on one
-//! 64-bit word, and no other act comes between its load and its store.
+//! The words that agents and processors share, and the acts on them. One act is one operation on
+//! one 64-bit word, and no other act comes between its load and its store.
 #![tactic(auto)]
 
 mod act;

@@ -1,5 +1,5 @@
--- The law of splitting, for block b of a permitted size whose granules all have one GPI, and a granule in its word
--- number `own`. The words of the block are numbered in it by j.
+-- The law of splitting, for block b of a permitted size whose granules all have one GPI, and a
+-- granule in its word number `own`. The words of the block are numbered in it by j.
 use Rattle.std.specs.Prelude.{◌≡◌, ◌≢◌, ℕ, ◌+◌, ◌*◌, ◌/◌, ◌<◌, true, Some, None}
 use Rattle.gpi_values.specs.declared.gpi.Gpi.{Gpi}
 use Rattle.gpt_descriptors.specs.declared.size.Size.{Size}
@@ -31,12 +31,15 @@ SplitMeans =
 -- and covers equal granules
 abbrev pub SplitCovers : Type 0
 SplitCovers =
-    (s : SetupData) (m : ℕ → Gpi) (z : Size) (b own j : ℕ) (e : L1Entry) → is_one_block s m z b ≡ true
-    → own < words_of s z → j < words_of s z
+    (s : SetupData) (m : ℕ → Gpi) (z : Size) (b own j : ℕ) (e : L1Entry)
+    → is_one_block s m z b ≡ true → own < words_of s z → j < words_of s z
     → l1_entry (split_in s m z b own j) ≡ Some e → CoversEqual s m (b * words_of s z + j) e
 
--- where the block is the largest of one GPI around the granule, canonical words elsewhere are canonical apart from it
+-- where the block is the largest of one GPI around the granule, canonical words elsewhere are
+-- canonical apart from it
 abbrev pub SplitElsewhere : Type 0
 SplitElsewhere =
-    (s : SetupData) (m : ℕ → Gpi) (z : Size) (granule w : ℕ) → largest_block s m None (granule / 16) ≡ Some z
-    → w / words_of s z ≢ granule / 16 / words_of s z → canonical_word s m (Some granule) w ≡ canonical_word s m None w
+    (s : SetupData) (m : ℕ → Gpi) (z : Size) (granule w : ℕ)
+    → largest_block s m None (granule / 16) ≡ Some z
+    → w / words_of s z ≢ granule / 16 / words_of s z
+    → canonical_word s m (Some granule) w ≡ canonical_word s m None w

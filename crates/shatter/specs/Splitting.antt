@@ -1,6 +1,7 @@
--- Splitting: the words that a contiguous block becomes when one of its granules is to be changed (TF-A gpt_rme,
--- shattering of contiguous descriptors). The 2 MB around that granule get granules words, the other words of its
--- 32 MB contiguous entries of 2 MB, and those outside it contiguous entries of 32 MB.
+-- Splitting: the words that a contiguous block becomes when one of its granules is to be changed
+-- (TF-A gpt_rme, shattering of contiguous descriptors). The 2 MB around that granule get granules
+-- words, the other words of its 32 MB contiguous entries of 2 MB, and those outside it contiguous
+-- entries of 32 MB.
 use Rattle.std.specs.Prelude.{ℕ, ◌+◌, ◌*◌, ◌/◌, ◌==◌, nat_lt, List, map, Option, Some, None, if◌then◌else◌}
 use Rattle.std.specs.List.{range_with_len}
 use Rattle.gpi_values.specs.declared.gpi.Gpi.{Gpi}
@@ -12,17 +13,19 @@ use Rattle.gpt_descriptors.specs.Fields.{granules_of}
 use Rattle.shared_words.specs.declared.act.Act.{Act}
 use Rattle.shared_words.specs.declared.act.Act.TheVariants as act
 
--- word j of the block, counted from its first one, after the splitting around word own; 2 MB have `two` words
+-- word j of the block, counted from its first one, after the splitting around word own; 2 MB have
+-- `two` words
 abbrev pub split_entry : ℕ → ℕ → Gpi → ℕ → L1Entry
 split_entry two own gpi j =
     if j / two == own / two then l1.Granules (granules_of gpi) else
-    if j / (16 * two) == own / (16 * two) then l1.Contig size.Two gpi else l1.Contig size.ThirtyTwo gpi
+    if j / (16 * two) == own / (16 * two) then l1.Contig size.Two gpi else
+    l1.Contig size.ThirtyTwo gpi
 
 abbrev pub split_word : ℕ → ℕ → Gpi → ℕ → ℕ
 split_word two own gpi j = l1_word (split_entry two own gpi j)
 
--- The splitting of a block: the place of its first word, the number of the granule's word in it, its GPI, how many of
--- its words are stored, how many it has, and how many 2 MB have.
+-- The splitting of a block: the place of its first word, the number of the granule's word in it,
+-- its GPI, how many of its words are stored, how many it has, and how many 2 MB have.
 pub record SplittingData : Type 0 where
   pub first : ℕ
   pub own : ℕ
@@ -33,7 +36,14 @@ pub record SplittingData : Type 0 where
 
 -- before the first store
 abbrev pub started : ℕ → ℕ → Gpi → ℕ → ℕ → SplittingData
-started first own gpi words two = record { first = first; own = own; gpi = gpi; made = 0; words = words; two = two }
+started first own gpi words two = record {
+  first = first;
+  own = own;
+  gpi = gpi;
+  made = 0;
+  words = words;
+  two = two;
+}
 
 -- store j of a splitting, and all of them, in rising order of places
 abbrev pub store_of : SplittingData → ℕ → Act
@@ -48,4 +58,11 @@ next_store d = if nat_lt d.made d.words then Some (store_of d d.made) else None
 
 -- after that store
 abbrev pub advanced : SplittingData → SplittingData
-advanced d = record { first = d.first; own = d.own; gpi = d.gpi; made = d.made + 1; words = d.words; two = d.two }
+advanced d = record {
+  first = d.first;
+  own = d.own;
+  gpi = d.gpi;
+  made = d.made + 1;
+  words = d.words;
+  two = d.two;
+}

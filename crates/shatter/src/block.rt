@@ -9,8 +9,8 @@ use std::marker::Model;
 /// Words of 2 MB with granules of 4 KB.
 const TWO_WORDS: usize = 32;
 
-/// The splitting of a contiguous block of `N` words with granules of 4 KB: 32, 512 or 8,192 for 2, 32 and
-/// 512 MB.
+/// The splitting of a contiguous block of `N` words with granules of 4 KB: 32, 512 or 8,192 for 2,
+/// 32 and 512 MB.
 #[derive(Clone, Copy, Debug, PartialEq, Eq)]
 pub struct Shatter<const N: usize> {
     splitting: Splitting,
@@ -30,8 +30,9 @@ impl<const N: usize> Model for Shatter<N> {
 }
 
 impl<const N: usize> Shatter<N> {
-    /// The splitting of a block of this GPI before its first store. `first` is the place of the block's
-    /// first word, and `own`, below `N`, the word of the granule that is to be changed, counted from it.
+    /// The splitting of a block of this GPI before its first store. `first` is the place of the
+    /// block's first word, and `own`, below `N`, the word of the granule that is to be changed,
+    /// counted from it.
     pub fn new(first: usize, own: usize, gpi: Gpi) -> Shatter<N>
         requires own { own < N }
         requires room { first + N < 2 ^ 64 }

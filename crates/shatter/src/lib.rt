@@ -1,6 +1,6 @@
-//! Splitting of contiguous blocks (TF-A `gpt_rme`, shattering of contiguous descriptors): the stores that
-//! rewrite one block before a granule in it is changed. Each of them leaves what every granule's word means.
-//! No call takes memory.
+//! Splitting of contiguous blocks (TF-A `gpt_rme`, shattering of contiguous descriptors): the
+//! stores that rewrite one block before a granule in it is changed. Each of them leaves what every
+//! granule's word means. No call takes memory.
 #![tactic(auto)]
 
 mod block;

@@ -5,7 +5,8 @@ use gpt_descriptors::{Gpi, L1Entry, Size, encode_l1, granules_of};
 use shared_words::Act;
 use std::marker::Model;
 
-/// The splitting of a contiguous block, store by store, whatever number of words the block and 2 MB have.
+/// The splitting of a contiguous block, store by store, whatever number of words the block and 2 MB
+/// have.
 #[derive(Clone, Copy, Debug, PartialEq, Eq)]
 pub struct Splitting {
     first: usize,
@@ -26,10 +27,18 @@ impl Model for Splitting {
 
     ghost Value = { SplittingData };
 
-    ghost view = { λ d. record { first = d.first; own = d.own; gpi = d.gpi; made = d.made; words = d.words; two = d.two } };
+    ghost view = { λ d. record {
+      first = d.first;
+      own = d.own;
+      gpi = d.gpi;
+      made = d.made;
+      words = d.words;
+      two = d.two;
+    } };
 
-    ghost invariant = { λ d. (d.made ≤ d.words) × (d.first + d.words < 2 ^ 64) × (0 < d.two) × (d.thirty_two ≡ 16 * d.two)
-        × (d.two_start ≡ d.own / d.two * d.two) × (d.thirty_two_start ≡ d.own / d.thirty_two * d.thirty_two) };
+    ghost invariant = { λ d. (d.made ≤ d.words) × (d.first + d.words < 2 ^ 64) × (0 < d.two)
+        × (d.thirty_two ≡ 16 * d.two) × (d.two_start ≡ d.own / d.two * d.two)
+        × (d.thirty_two_start ≡ d.own / d.thirty_two * d.thirty_two) };
 
     ghost inverse = { λ d. record {
       first = d.first;
@@ -54,9 +63,9 @@ fn is_in_block(j: usize, start: usize, n: usize) -> bool
 }
 
 impl Splitting {
-    /// The splitting of a block of this GPI before its first store. `first` is the place of the block's
-    /// first word, and `own` the word of the granule that is to be changed, counted from it; the block has
-    /// `words` words and 2 MB have `two`.
+    /// The splitting of a block of this GPI before its first store. `first` is the place of the
+    /// block's first word, and `own` the word of the granule that is to be changed, counted from
+    /// it; the block has `words` words and 2 MB have `two`.
     pub fn new(first: usize, own: usize, gpi: Gpi, words: usize, two: usize) -> Splitting
         requires own { own < words }
         requires room { first + words < 2 ^ 64 }

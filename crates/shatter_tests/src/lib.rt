@@ -1,4 +1,5 @@
-//! Tests of `shatter`, in a crate of their own, and the plain slow program that lists the stores of a splitting.
+//! Tests of `shatter`, in a crate of their own, and the plain slow program that lists the stores of
+//! a splitting.
 #![tactic(auto)]
 
 mod slow;

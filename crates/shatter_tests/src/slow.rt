@@ -31,7 +31,8 @@ pub fn slow_stores(
 ) -> Result<Vec<Act>, AllocError>
     requires room { first + words < 2 ^ 64 }
     requires two { (0 < two) × (16 * two < 2 ^ 64) }
-    ensures { IfOk result (λ acts. acts.items ≡ splitting_stores (started first own gpi words two)) }
+    ensures { IfOk result
+        (λ acts. acts.items ≡ splitting_stores (started first own gpi words two)) }
 {
     let mut acts = Vec::new(alloc);
     for j in 0..words {

@@ -5,7 +5,8 @@ use shatter::{Shatter, Splitting, splitting_keeps_the_map, stores_are_in_order};
 use std::alloc::{AllocError, Global};
 use std::test::Fail;
 
-/// Blocks by their words, the words of 2 MB, and the granule's word: with granules of 4 KB at first.
+/// Blocks by their words, the words of 2 MB, and the granule's word: with granules of 4 KB at
+/// first.
 const BLOCKS: [(usize, usize, usize); 8] = [
     (32, 32, 0),
     (32, 32, 31),
@@ -33,7 +34,8 @@ fn made(alloc: Global, splitting: Splitting) -> Result<Vec<Act>, AllocError> {
     Ok(acts)
 }
 
-/// Whether the stores of a block of realm at place 1000 are those of the definition, and none is left.
+/// Whether the stores of a block of realm at place 1000 are those of the definition, and none is
+/// left.
 fn agree(alloc: Global, words: usize, two: usize, own: usize) -> Result<bool, AllocError> {
     if own >= words || words > 10_000 || two == 0 || two > 10_000 {
         return Ok(false);
@@ -55,8 +57,8 @@ fn stores_are_those_of_the_definition(rt: HostRuntime) -> Result<(), Fail> {
     Ok(())
 }
 
-/// Of a block of 32 MB at place 1000 that is split around its word 33, these stores by their number: the
-/// second 2 MB become granules.
+/// Of a block of 32 MB at place 1000 that is split around its word 33, these stores by their
+/// number: the second 2 MB become granules.
 const STORES: [(usize, Act); 6] = [
     (0, Act::Store(1000, 0x191)),
     (31, Act::Store(1031, 0x191)),

@@ -1,13 +1,12 @@
 ghost use Rattle.std.specs.Prelude.{◌≡◌, ◌+◌, ◌-◌, ◌*◌, ◌/◌, ◌<◌, ◌≤◌, ◌^◌, ◌++◌, IfOk, OnOk, IfSome, is_some, replicate, false};
 ghost use Rattle.gpi_values.specs.Values.{value_of};
 ghost use Rattle.gpt_descriptors.specs.declared.size.Size.TheVariants as sizes;
-ghost use Rattle.gpt_descriptors.specs.Sizes.{words_of, table_words, space_words};
-ghost use Rattle.gpt_descriptors.specs.declared.entry.L1Entry.TheVariants as entries;
-ghost use Rattle.gpt_descriptors.specs.Entries.{packed, l1_word};
-ghost use Rattle.gpt_descriptors.specs.Canonical.{is_one_block};
+ghost use Rattle.gpt_descriptors.specs.Sizes.{space_words};
+ghost use Rattle.gpt_descriptors.specs.Entries.{packed};
 ghost use Rattle.region_plan.specs.Regions.{region_map};
-ghost use Rattle.table_build.specs.Built.{canonical_words, granules_words, table_of};
+ghost use Rattle.table_build.specs.Built.{granules_words, table_of};
 ghost use Rattle.table_build.specs.InnerReading.{IsAt};
+ghost use Rattle.table_build.specs.InnerBlocks.{IsInside, is_one_entry, first_gpi, entry_words, block_words, block_granules, IsAtBlock, IsAtTable};
 
 use crate::cursor::Cursor;
 use gpi_values::nibble;
@@ -18,11 +17,11 @@ use std::alloc::AllocError;
 /// The one GPI of block `b` of this size, where the block may be one entry.
 fn block_gpi(cursor: &mut Cursor<'_>, plan: &Plan, size: Size, b: u64) -> Option<Gpi>
     requires range { b < 2 ^ 20 }
-    requires inside { (b + 1) * words_of plan.now.setup size ≤ space_words plan.now.setup }
-    requires at { IsAt plan.now.setup plan.now.regions (b * words_of plan.now.setup size) cursor.old }
-    ensures exact { is_some result ≡ is_one_block plan.now.setup (region_map plan.now.setup plan.now.regions) size b }
-    ensures gpi { IfSome result (λ gpi. gpi ≡ region_map plan.now.setup plan.now.regions (16 * (b * words_of plan.now.setup size))) }
-    ensures at { IsAt plan.now.setup plan.now.regions (b * words_of plan.now.setup size) cursor.new }
+    requires inside { IsInside plan.now size b }
+    requires at { IsAtBlock plan.now size b cursor.old }
+    ensures exact { is_some result ≡ is_one_entry plan.now size b }
+    ensures gpi { IfSome result (λ gpi. gpi ≡ first_gpi plan.now size b) }
+    ensures at { IsAtBlock plan.now size b cursor.new }
 {
     let setup = plan.setup();
     if !setup.max().permits(size) {
@@ -54,8 +53,8 @@ fn push_entry(
     b: u64,
     gpi: Gpi,
 ) -> Result<(), AllocError>
-    requires { gpi ≡ region_map plan.now.setup plan.now.regions (16 * (b * words_of plan.now.setup size)) }
-    ensures { OnOk result (out.new.items ≡ out.old.items ++ replicate (words_of plan.now.setup size) (l1_word (entries.Contig size (region_map plan.now.setup plan.now.regions (16 * (b * words_of plan.now.setup size)))))) }
+    requires { gpi ≡ first_gpi plan.now size b }
+    ensures { OnOk result (out.new.items ≡ out.old.items ++ entry_words plan.now size b) }
 {
     let word = encode_l1(L1Entry::Contig(size, gpi));
     push_words(out, word, plan.setup().words_of(size))
@@ -81,8 +80,8 @@ fn uniform_word(gpi: Gpi) -> u64
     nibble(gpi) * 0x1111_1111_1111_1111
 }
 
-/// Appends granules words from word `w` on and at most up to word `end`: those that the run of the first
-/// granule covers, or one word in which runs end. Answers the word after them.
+/// Appends granules words from word `w` on and at most up to word `end`: those that the run of the
+/// first granule covers, or one word in which runs end. Answers the word after them.
 fn push_some(
     out: &mut Vec<u64>,
     cursor: &mut Cursor<'_>,
@@ -96,7 +95,8 @@ fn push_some(
     requires at { IsAt plan.now.setup plan.now.regions w cursor.old }
     ensures more { IfOk result (λ v. w < v) }
     ensures inside { IfOk result (λ v. v ≤ end) }
-    ensures words { IfOk result (λ v. out.new.items ≡ out.old.items ++ granules_words plan.now.setup plan.now.regions w (v - w)) }
+    ensures words { IfOk result (λ v. out.new.items
+        ≡ out.old.items ++ granules_words plan.now.setup plan.now.regions w (v - w)) }
     ensures at { IfOk result (λ v. IsAt plan.now.setup plan.now.regions v cursor.new) }
 {
     let (gpi, run_end) = cursor.run_of(16 * w);
@@ -117,10 +117,11 @@ fn push_granules(
     b: u64,
 ) -> Result<(), AllocError>
     requires range { b < 2 ^ 20 }
-    requires inside { (b + 1) * words_of plan.now.setup sizes.Two ≤ space_words plan.now.setup }
-    requires at { IsAt plan.now.setup plan.now.regions (b * words_of plan.now.setup sizes.Two) cursor.old }
-    ensures words { OnOk result (out.new.items ≡ out.old.items ++ granules_words plan.now.setup plan.now.regions (b * words_of plan.now.setup sizes.Two) (words_of plan.now.setup sizes.Two)) }
-    ensures at { OnOk result (IsAt plan.now.setup plan.now.regions ((b + 1) * words_of plan.now.setup sizes.Two) cursor.new) }
+    requires inside { IsInside plan.now sizes.Two b }
+    requires at { IsAtBlock plan.now sizes.Two b cursor.old }
+    ensures words { OnOk result
+        (out.new.items ≡ out.old.items ++ block_granules plan.now sizes.Two b) }
+    ensures at { OnOk result (IsAtBlock plan.now sizes.Two (b + 1) cursor.new) }
 {
     let words = plan.setup().words_of(Size::Two);
     let end = (b + 1) * words;
@@ -139,12 +140,13 @@ fn push_two(
     b: u64,
 ) -> Result<(), AllocError>
     requires range { b < 2 ^ 20 }
-    requires largest { is_one_block plan.now.setup (region_map plan.now.setup plan.now.regions) sizes.FiveTwelve (b / 16 / 16) ≡ false }
-    requires larger { is_one_block plan.now.setup (region_map plan.now.setup plan.now.regions) sizes.ThirtyTwo (b / 16) ≡ false }
-    requires inside { (b + 1) * words_of plan.now.setup sizes.Two ≤ space_words plan.now.setup }
-    requires at { IsAt plan.now.setup plan.now.regions (b * words_of plan.now.setup sizes.Two) cursor.old }
-    ensures words { OnOk result (out.new.items ≡ out.old.items ++ canonical_words plan.now.setup plan.now.regions (b * words_of plan.now.setup sizes.Two) (words_of plan.now.setup sizes.Two)) }
-    ensures at { OnOk result (IsAt plan.now.setup plan.now.regions ((b + 1) * words_of plan.now.setup sizes.Two) cursor.new) }
+    requires largest { is_one_entry plan.now sizes.FiveTwelve (b / 16 / 16) ≡ false }
+    requires larger { is_one_entry plan.now sizes.ThirtyTwo (b / 16) ≡ false }
+    requires inside { IsInside plan.now sizes.Two b }
+    requires at { IsAtBlock plan.now sizes.Two b cursor.old }
+    ensures words { OnOk result
+        (out.new.items ≡ out.old.items ++ block_words plan.now sizes.Two b) }
+    ensures at { OnOk result (IsAtBlock plan.now sizes.Two (b + 1) cursor.new) }
 {
     match block_gpi(cursor, plan, Size::Two, b) {
         Some(gpi) => push_entry(out, plan, Size::Two, b, gpi),
@@ -160,12 +162,13 @@ fn push_twos(
     b: u64,
 ) -> Result<(), AllocError>
     requires range { b < 2 ^ 16 }
-    requires largest { is_one_block plan.now.setup (region_map plan.now.setup plan.now.regions) sizes.FiveTwelve (b / 16) ≡ false }
-    requires larger { is_one_block plan.now.setup (region_map plan.now.setup plan.now.regions) sizes.ThirtyTwo b ≡ false }
-    requires inside { (b + 1) * words_of plan.now.setup sizes.ThirtyTwo ≤ space_words plan.now.setup }
-    requires at { IsAt plan.now.setup plan.now.regions (b * words_of plan.now.setup sizes.ThirtyTwo) cursor.old }
-    ensures words { OnOk result (out.new.items ≡ out.old.items ++ canonical_words plan.now.setup plan.now.regions (b * words_of plan.now.setup sizes.ThirtyTwo) (words_of plan.now.setup sizes.ThirtyTwo)) }
-    ensures at { OnOk result (IsAt plan.now.setup plan.now.regions ((b + 1) * words_of plan.now.setup sizes.ThirtyTwo) cursor.new) }
+    requires largest { is_one_entry plan.now sizes.FiveTwelve (b / 16) ≡ false }
+    requires larger { is_one_entry plan.now sizes.ThirtyTwo b ≡ false }
+    requires inside { IsInside plan.now sizes.ThirtyTwo b }
+    requires at { IsAtBlock plan.now sizes.ThirtyTwo b cursor.old }
+    ensures words { OnOk result
+        (out.new.items ≡ out.old.items ++ block_words plan.now sizes.ThirtyTwo b) }
+    ensures at { OnOk result (IsAtBlock plan.now sizes.ThirtyTwo (b + 1) cursor.new) }
 {
     for k in 0..16 {
         push_two(out, cursor, plan, 16 * b + k)?;
@@ -181,11 +184,12 @@ fn push_thirty_two(
     b: u64,
 ) -> Result<(), AllocError>
     requires range { b < 2 ^ 16 }
-    requires larger { is_one_block plan.now.setup (region_map plan.now.setup plan.now.regions) sizes.FiveTwelve (b / 16) ≡ false }
-    requires inside { (b + 1) * words_of plan.now.setup sizes.ThirtyTwo ≤ space_words plan.now.setup }
-    requires at { IsAt plan.now.setup plan.now.regions (b * words_of plan.now.setup sizes.ThirtyTwo) cursor.old }
-    ensures words { OnOk result (out.new.items ≡ out.old.items ++ canonical_words plan.now.setup plan.now.regions (b * words_of plan.now.setup sizes.ThirtyTwo) (words_of plan.now.setup sizes.ThirtyTwo)) }
-    ensures at { OnOk result (IsAt plan.now.setup plan.now.regions ((b + 1) * words_of plan.now.setup sizes.ThirtyTwo) cursor.new) }
+    requires larger { is_one_entry plan.now sizes.FiveTwelve (b / 16) ≡ false }
+    requires inside { IsInside plan.now sizes.ThirtyTwo b }
+    requires at { IsAtBlock plan.now sizes.ThirtyTwo b cursor.old }
+    ensures words { OnOk result
+        (out.new.items ≡ out.old.items ++ block_words plan.now sizes.ThirtyTwo b) }
+    ensures at { OnOk result (IsAtBlock plan.now sizes.ThirtyTwo (b + 1) cursor.new) }
 {
     match block_gpi(cursor, plan, Size::ThirtyTwo, b) {
         Some(gpi) => push_entry(out, plan, Size::ThirtyTwo, b, gpi),
@@ -201,11 +205,12 @@ fn push_thirty_twos(
     b: u64,
 ) -> Result<(), AllocError>
     requires range { b < 2 ^ 12 }
-    requires larger { is_one_block plan.now.setup (region_map plan.now.setup plan.now.regions) sizes.FiveTwelve b ≡ false }
-    requires inside { (b + 1) * words_of plan.now.setup sizes.FiveTwelve ≤ space_words plan.now.setup }
-    requires at { IsAt plan.now.setup plan.now.regions (b * words_of plan.now.setup sizes.FiveTwelve) cursor.old }
-    ensures words { OnOk result (out.new.items ≡ out.old.items ++ canonical_words plan.now.setup plan.now.regions (b * words_of plan.now.setup sizes.FiveTwelve) (words_of plan.now.setup sizes.FiveTwelve)) }
-    ensures at { OnOk result (IsAt plan.now.setup plan.now.regions ((b + 1) * words_of plan.now.setup sizes.FiveTwelve) cursor.new) }
+    requires larger { is_one_entry plan.now sizes.FiveTwelve b ≡ false }
+    requires inside { IsInside plan.now sizes.FiveTwelve b }
+    requires at { IsAtBlock plan.now sizes.FiveTwelve b cursor.old }
+    ensures words { OnOk result
+        (out.new.items ≡ out.old.items ++ block_words plan.now sizes.FiveTwelve b) }
+    ensures at { OnOk result (IsAtBlock plan.now sizes.FiveTwelve (b + 1) cursor.new) }
 {
     for k in 0..16 {
         push_thirty_two(out, cursor, plan, 16 * b + k)?;
@@ -221,10 +226,11 @@ fn push_five_twelve(
     b: u64,
 ) -> Result<(), AllocError>
     requires range { b < 2 ^ 12 }
-    requires inside { (b + 1) * words_of plan.now.setup sizes.FiveTwelve ≤ space_words plan.now.setup }
-    requires at { IsAt plan.now.setup plan.now.regions (b * words_of plan.now.setup sizes.FiveTwelve) cursor.old }
-    ensures words { OnOk result (out.new.items ≡ out.old.items ++ canonical_words plan.now.setup plan.now.regions (b * words_of plan.now.setup sizes.FiveTwelve) (words_of plan.now.setup sizes.FiveTwelve)) }
-    ensures at { OnOk result (IsAt plan.now.setup plan.now.regions ((b + 1) * words_of plan.now.setup sizes.FiveTwelve) cursor.new) }
+    requires inside { IsInside plan.now sizes.FiveTwelve b }
+    requires at { IsAtBlock plan.now sizes.FiveTwelve b cursor.old }
+    ensures words { OnOk result
+        (out.new.items ≡ out.old.items ++ block_words plan.now sizes.FiveTwelve b) }
+    ensures at { OnOk result (IsAtBlock plan.now sizes.FiveTwelve (b + 1) cursor.new) }
 {
     match block_gpi(cursor, plan, Size::FiveTwelve, b) {
         Some(gpi) => push_entry(out, plan, Size::FiveTwelve, b, gpi),
@@ -241,9 +247,10 @@ pub fn push_table(
 ) -> Result<(), AllocError>
     requires range { q < 64 }
     requires inside { q < plan.now.setup.gigabytes }
-    requires at { IsAt plan.now.setup plan.now.regions (q * table_words plan.now.setup) cursor.old }
-    ensures words { OnOk result (out.new.items ≡ out.old.items ++ table_of plan.now.setup plan.now.regions q) }
-    ensures at { OnOk result (IsAt plan.now.setup plan.now.regions ((q + 1) * table_words plan.now.setup) cursor.new) }
+    requires at { IsAtTable plan.now q cursor.old }
+    ensures words { OnOk result
+        (out.new.items ≡ out.old.items ++ table_of plan.now.setup plan.now.regions q) }
+    ensures at { OnOk result (IsAtTable plan.now (q + 1) cursor.new) }
 {
     push_five_twelve(out, cursor, plan, 2 * q)?;
     push_five_twelve(out, cursor, plan, 2 * q + 1)

@@ -1,9 +1,9 @@
-ghost use Rattle.std.specs.Prelude.{◌≡◌, ◌+◌, ◌*◌, ◌<◌, ◌≤◌, ◌^◌, ◌++◌, [], IfOk, IfErr, OnOk, false, if◌then◌else◌};
-ghost use Rattle.gpt_descriptors.specs.Sizes.{table_words, table_bytes};
+ghost use Rattle.std.specs.Prelude.{◌≡◌, ◌+◌, ◌*◌, ◌<◌, ◌≤◌, ◌^◌, ◌++◌, IfOk, IfErr, OnOk, false, if◌then◌else◌};
+ghost use Rattle.gpt_descriptors.specs.Sizes.{table_bytes};
 ghost use Rattle.gpt_descriptors.specs.Entries.{l0_word};
 ghost use Rattle.region_plan.specs.Regions.{region_l0, region_entry, needs_table, tables_below};
-ghost use Rattle.table_build.specs.Built.{table_of, region_l1, tables_of, is_bad_base};
-ghost use Rattle.table_build.specs.InnerReading.{IsAt};
+ghost use Rattle.table_build.specs.Built.{region_l1, tables_of, is_bad_base};
+ghost use Rattle.table_build.specs.InnerBlocks.{needed_words, IsAtTable};
 ghost use Rattle.table_build.specs.Outcome.{IsBadBase};
 
 use crate::blocks::push_table;
@@ -52,7 +52,7 @@ fn table_address(setup: &Setup, before: u64) -> u64
     setup.base() + before * (8 * setup.table_words())
 }
 
-/// The level 0 word of gigabyte `q`, below which so many gigabytes need a table.
+/// The level 0 word of gigabyte `q`, below which this number of gigabytes need a table.
 fn entry_word(plan: &Plan, q: u64, before: u64) -> u64
     requires good { is_bad_base plan.now.setup plan.now.regions ≡ false }
     requires range { q < plan.now.setup.gigabytes }
@@ -99,9 +99,9 @@ fn push_needed(
 ) -> Result<(), AllocError>
     requires range { q < 64 }
     requires inside { q < plan.now.setup.gigabytes }
-    requires at { IsAt plan.now.setup plan.now.regions (q * table_words plan.now.setup) cursor.old }
-    ensures words { OnOk result (words.new.items ≡ words.old.items ++ (if needs_table plan.now.regions q then table_of plan.now.setup plan.now.regions q else [])) }
-    ensures at { OnOk result (IsAt plan.now.setup plan.now.regions ((q + 1) * table_words plan.now.setup) cursor.new) }
+    requires at { IsAtTable plan.now q cursor.old }
+    ensures words { OnOk result (words.new.items ≡ words.old.items ++ needed_words plan.now q) }
+    ensures at { OnOk result (IsAtTable plan.now (q + 1) cursor.new) }
 {
     if plan.needs_table(q) {
         push_table(words, cursor, plan, q)
@@ -129,7 +129,8 @@ pub fn build(alloc: Global, plan: &Plan, l1_base: u64) -> Result<Tables, BuildEr
     requires { l1_base ≡ plan.now.setup.base }
     ensures built { IfOk result (λ tables. tables ≡ tables_of plan.now.setup plan.now.regions) }
     ensures good { OnOk result (is_bad_base plan.now.setup plan.now.regions ≡ false) }
-    ensures bad { IfErr result (λ e. IsBadBase e l1_base (is_bad_base plan.now.setup plan.now.regions)) }
+    ensures bad { IfErr result
+        (λ e. IsBadBase e l1_base (is_bad_base plan.now.setup plan.now.regions)) }
 {
     if bad_base(plan, l1_base) {
         return Err(BuildError::BadBase(l1_base));

@@ -6,8 +6,8 @@ ghost use Rattle.table_build.specs.InnerReading.{HasBegun, NextIsAfter, Reads, I
 use gpt_descriptors::Gpi;
 use region_plan::{Run, RunMap};
 
-/// Goes once over the runs of a map, in rising order: the run in hand and those after it, and how many
-/// granules the map has.
+/// Goes once over the runs of a map, in rising order: the run in hand and those after it, and how
+/// many granules the map has.
 #[derive(Drop)]
 pub struct Cursor<'a> {
     rest: &'a [Run],
@@ -19,7 +19,8 @@ fn skip(rest: &[Run], granule: u64) -> &[Run]
     requires { HasBegun granule rest.now }
     ensures begun { HasBegun granule result.now }
     ensures next { NextIsAfter granule result.now }
-    ensures reads { (m : ℕ → Gpi) (size : ℕ) → Reads m granule size rest.now → Reads m granule size result.now }
+    ensures reads { (m : ℕ → Gpi) (size : ℕ)
+        → Reads m granule size rest.now → Reads m granule size result.now }
 {
     let mut at = 0;
     while at + 1 < rest.len() && rest[at + 1].first <= granule {
@@ -44,8 +45,10 @@ impl<'a> Cursor<'a> {
     pub fn run_of(&mut self, granule: u64) -> (Gpi, u64)
         requires { HasBegun granule self.old.rest.now }
         ensures size { self.new.size ≡ self.old.size }
-        ensures reads { (m : ℕ → Gpi) → Reads m granule self.old.size self.old.rest.now → Reads m granule self.old.size self.new.rest.now }
-        ensures run { (m : ℕ → Gpi) → Reads m granule self.old.size self.old.rest.now → granule < self.old.size → IsRunFrom m granule self.old.size result.0 result.1 }
+        ensures reads { (m : ℕ → Gpi) → Reads m granule self.old.size self.old.rest.now
+            → Reads m granule self.old.size self.new.rest.now }
+        ensures run { (m : ℕ → Gpi) → Reads m granule self.old.size self.old.rest.now
+            → granule < self.old.size → IsRunFrom m granule self.old.size result.0 result.1 }
     {
         self.rest = skip(self.rest, granule);
         match self.rest {

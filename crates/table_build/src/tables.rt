@@ -3,8 +3,8 @@ ghost use Rattle.std.specs.Prelude.{◌≡◌};
 use gpt_descriptors::Setup;
 use std::marker::Model;
 
-/// Granule protection tables: the level 0 words, one for each gigabyte, and the words of all level 1
-/// tables, one table after another.
+/// Granule protection tables: the level 0 words, one for each gigabyte, and the words of all
+/// level 1 tables, one table after another.
 #[derive(Debug, Drop)]
 pub struct Tables {
     setup: Setup,
@@ -19,7 +19,8 @@ impl Model for Tables {
 
     ghost view = { λ a. record { setup = a.setup; l0 = a.l0.items; l1 = a.l1.items } };
 
-    ghost invariant = { λ a. AreTables (record { setup = a.setup; l0 = a.l0.items; l1 = a.l1.items }) };
+    ghost invariant = { λ a. AreTables
+        (record { setup = a.setup; l0 = a.l0.items; l1 = a.l1.items }) };
 }
 
 impl Tables {

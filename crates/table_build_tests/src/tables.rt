@@ -39,7 +39,7 @@ fn tables_of(
     build(alloc, &plan, plan.setup().base())
 }
 
-/// Whether so many words from `first` on are there and are this word.
+/// Whether `count` words from `first` on are there and are this word.
 fn is_run(words: &[u64], first: usize, count: usize, word: u64) -> bool {
     let all = words.len();
     first <= all && count <= all - first && words.iter().skip(first).take(count).all(|w| *w == word)

@@ -6,4 +6,5 @@ use Rattle.gpt_descriptors.specs.Sizes.{SetupData, words_of}
 
 -- two maps agree within the 512 MB around word w
 abbrev pub AgreesAround : SetupData → (ℕ → Gpi) → (ℕ → Gpi) → ℕ → Type 0
-AgreesAround s m l w = (g : ℕ) → g / 16 / words_of s size.FiveTwelve ≡ w / words_of s size.FiveTwelve → m g ≡ l g
+AgreesAround s m l w =
+    (g : ℕ) → g / 16 / words_of s size.FiveTwelve ≡ w / words_of s size.FiveTwelve → m g ≡ l g

@@ -10,8 +10,9 @@ use Rattle.table_meaning.specs.declared.fusing.Fusing.TheVariants.{Testing, Stor
 use Rattle.table_meaning.specs.Fusing.{Knows}
 use Rattle.table_meaning.specs.Equation.{Step, Whole, Splitting, Apart, Merging}
 
--- a holder has loaded nothing yet or is done; it has loaded its word; it has made k stores of splitting a block of a
--- GPI; it keeps its word, to change it or after it was changed; it merges around its word, of granules of a GPI
+-- a holder has loaded nothing yet or is done; it has loaded its word; it has made k stores of
+-- splitting a block of a GPI; it keeps its word, to change it or after it was changed; it merges
+-- around its word, of granules of a GPI
 pub data Stage : Type 0 where
   Idle : Stage
   Looked : ℕ → Stage
@@ -37,6 +38,7 @@ abbrev pub Facts : SetupData → (ℕ → Gpi) → ℕ → Stage → Type 0
 Facts s m g Idle = Unit {0}
 Facts s m g (Looked word) = word ≡ canonical_word s m None (g / 16)
 Facts s m g (Splits z gpi k) =
-    (largest_block s m None (g / 16) ≡ Some z) × BlockIs s m z (g / 16 / words_of s z) gpi × (k ≤ words_of s z)
+    (largest_block s m None (g / 16) ≡ Some z) × BlockIs s m z (g / 16 / words_of s z) gpi
+    × (k ≤ words_of s z)
 Facts s m g (Keeps word) = word ≡ canonical_word s m (Some g) (g / 16)
 Facts s m g (Merges v f) = (canonical_word s m (Some g) (g / 16) ≡ granules_of v) × Knows s m g v f

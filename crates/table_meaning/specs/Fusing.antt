@@ -1,5 +1,5 @@
--- Merging as a walk of steps: a test load or a store at a time. A size is tested where the one before it passed; the
--- largest size whose tests all passed is stored.
+-- Merging as a walk of steps: a test load or a store at a time. A size is tested where the one
+-- before it passed; the largest size whose tests all passed is stored.
 use Rattle.std.specs.Prelude.{◌≡◌, ℕ, ◌+◌, ◌*◌, ◌/◌, ◌%◌, ◌<◌, ◌≤◌, true, Option, Some, None, ◌==◌, nat_lt, if◌then◌else◌}
 use Rattle.gpi_values.specs.declared.gpi.Gpi.{Gpi}
 use Rattle.gpt_descriptors.specs.declared.size.Size.{Size}
@@ -13,7 +13,7 @@ use Rattle.gpt_descriptors.specs.Canonical.{largest_block, canonical_word, Block
 use Rattle.table_meaning.specs.declared.fusing.Fusing.{Fusing}
 use Rattle.table_meaning.specs.declared.fusing.Fusing.TheVariants.{Testing, Storing, Ended}
 
--- ---- the words that are loaded. 2 MB have `two` words; word `own` is the one around which merging is done.
+-- ---- the words that are loaded. 2 MB have `two` words; merging is done around word `own`.
 
 -- words of a block of a size
 abbrev pub block_words : ℕ → Size → ℕ
@@ -21,7 +21,8 @@ block_words two size.Two = two
 block_words two size.ThirtyTwo = 16 * two
 block_words two size.FiveTwelve = 16 * (16 * two)
 
--- the loads of the test of a size: each word of the 2 MB, the first word of each of the fifteen other blocks
+-- the loads of the test of a size: each word of the 2 MB, the first word of each of the fifteen
+-- other blocks
 abbrev pub loads_of : ℕ → Size → ℕ
 loads_of two size.Two = two
 loads_of two size.ThirtyTwo = 15
@@ -35,7 +36,8 @@ beside j k = if nat_lt k j then k else k + 1
 abbrev pub load_at : ℕ → ℕ → Size → ℕ → ℕ
 load_at two own size.Two k = own / two * two + k
 load_at two own size.ThirtyTwo k = (own / (16 * two) * 16 + beside (own / two % 16) k) * two
-load_at two own size.FiveTwelve k = (own / (16 * (16 * two)) * 16 + beside (own / (16 * two) % 16) k) * (16 * two)
+load_at two own size.FiveTwelve k =
+    (own / (16 * (16 * two)) * 16 + beside (own / (16 * two) % 16) k) * (16 * two)
 
 -- the word of store k of a block of a size
 abbrev pub store_at : ℕ → ℕ → Size → ℕ → ℕ
@@ -68,7 +70,9 @@ failed size.FiveTwelve = Storing size.ThirtyTwo 0
 -- after load k of the test of a size, which answered this word
 abbrev pub loaded : ℕ → MaxBlock → Gpi → Size → ℕ → ℕ → Fusing
 loaded two max v z k word =
-    if word == needed_word v z then (if k + 1 == loads_of two z then passed max z else Testing z (k + 1)) else failed z
+    if word == needed_word v z
+    then (if k + 1 == loads_of two z then passed max z else Testing z (k + 1))
+    else failed z
 
 -- after store k of a block of a size
 abbrev pub stored : ℕ → Size → ℕ → Fusing
@@ -79,17 +83,19 @@ abbrev pub begun : MaxBlock → Option Gpi → Fusing
 begun max None = Ended None
 begun max (Some v) = if is_permitted max size.Two then Testing size.Two 0 else Ended None
 
--- ---- what is known at a step, of tables canonical apart from granule g whose own word is that of GPI v
+-- ---- what is known at a step, of tables canonical apart from granule g, whose word is that of v
 
 -- the blocks that the tests before this one have shown
 abbrev pub ShownBefore : SetupData → (ℕ → Gpi) → ℕ → Gpi → Size → Type 0
 ShownBefore s m g v size.Two = Unit {0}
 ShownBefore s m g v size.ThirtyTwo = BlockIs s m size.Two (g / 16 / words_of s size.Two) v
-ShownBefore s m g v size.FiveTwelve = BlockIs s m size.ThirtyTwo (g / 16 / words_of s size.ThirtyTwo) v
+ShownBefore s m g v size.FiveTwelve =
+    BlockIs s m size.ThirtyTwo (g / 16 / words_of s size.ThirtyTwo) v
 
 abbrev pub Knows : SetupData → (ℕ → Gpi) → ℕ → Gpi → Fusing → Type 0
 Knows s m g v (Testing z k) =
     (is_permitted s.max z ≡ true) × (k < loads_of (words_of s size.Two) z) × ShownBefore s m g v z
-    × ((j : ℕ) → j < k → canonical_word s m (Some g) (load_at (words_of s size.Two) (g / 16) z j) ≡ needed_word v z)
+    × ((j : ℕ) → j < k
+    → canonical_word s m (Some g) (load_at (words_of s size.Two) (g / 16) z j) ≡ needed_word v z)
 Knows s m g v (Storing z k) = (largest_block s m None (g / 16) ≡ Some z) × (k ≤ words_of s z)
 Knows s m g v (Ended o) = largest_block s m None (g / 16) ≡ o

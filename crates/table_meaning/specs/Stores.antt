@@ -10,12 +10,15 @@ use Rattle.table_meaning.specs.Splitting.{block_start, split_around}
 -- the words after k stores of word 0, word 1 and so on, from index `first` on
 unfoldable pub after_stores : (ℕ → ℕ) → ℕ → ℕ → List ℕ → List ℕ
 after_stores word first zero words = words
-after_stores word first (suc k) words = slice_set (after_stores word first k words) (first + k) (word k)
+after_stores word first (suc k) words =
+    slice_set (after_stores word first k words) (first + k) (word k)
 
 -- after k stores of splitting the block of a size around word own, whose index is i
 abbrev pub after_splitting : SetupData → Size → ℕ → ℕ → Gpi → ℕ → List ℕ → List ℕ
-after_splitting s z own i gpi k words = after_stores (λ j. split_around s own gpi (block_start s z own + j)) (block_start s z i) k words
+after_splitting s z own i gpi k words =
+    after_stores (λ j. split_around s own gpi (block_start s z own + j)) (block_start s z i) k words
 
 -- after k stores of merging the block of a size around the word of index i
 abbrev pub after_merging : SetupData → Size → ℕ → Gpi → ℕ → List ℕ → List ℕ
-after_merging s z i gpi k words = after_stores (λ j. l1_word (l1.Contig z gpi)) (block_start s z i) k words
+after_merging s z i gpi k words =
+    after_stores (λ j. l1_word (l1.Contig z gpi)) (block_start s z i) k words

@@ -1,5 +1,5 @@
-//! What granule protection tables mean, that canonical tables mean their map, and that a change of one
-//! granule, with splitting before it and merging after it, keeps them so at every store.
+//! What granule protection tables mean, that canonical tables mean their map, and that a change of
+//! one granule, with splitting before it and merging after it, keeps them so at every store.
 #![tactic(auto)]
 
 mod fusing;
