@@ -21,6 +21,7 @@ use Rattle.delegate_ops.specs.declared.stage.Stage.{Stage}
 use Rattle.delegate_ops.specs.declared.stage.Stage.TheVariants as stage
 use Rattle.delegate_ops.specs.Deciding.{address_of}
 use Rattle.delegate_ops.specs.Script.{granule_of_task}
+use Rattle.delegate_ops.proofs.AgentLemmas.{idle_stage}
 use Rattle.delegate_ops.specs.InnerAgents.{AgentData, IsAgent, task_of}
 use Rattle.core_machine.specs.declared.caller.Caller.{Caller}
 use Rattle.core_machine.specs.declared.caller.Caller.TheVariants as caller
@@ -36,11 +37,6 @@ use Rattle.core_machine.proofs.ActLemmas.{lock_low}
 use Rattle.core_machine.proofs.ChangeLemmas.{index_inside}
 use Rattle.core_machine.proofs.OpeningLemmas.{word_back, holder_at}
 use Rattle.core_machine.proofs.PartLemmas.{part_apart, part_means}
-
--- ---- to come from delegate_ops/proofs/AgentLemmas: then this is an import
-
-idle_stage : (a : AgentData) → IsAgent a → task_of a ≡ None → a.stage ≡ stage.Locking
-idle_stage a is none = ?
 
 -- ---- addresses
 
