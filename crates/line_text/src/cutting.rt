@@ -46,7 +46,8 @@ fn position_of(text: &[u8], at: u8) -> Option<usize>
 /// What comes before the first byte `at`, and what comes after it, if there is one.
 pub fn cut(text: &[u8], at: u8) -> (&[u8], Option<&[u8]>)
     ensures none { IfNone result.1 (slice_split (λ c. c == at) text.now ≡ result.0.now ∷ []) }
-    ensures some { IfSome result.1 (λ rest. slice_split (λ c. c == at) text.now ≡ result.0.now ∷ slice_split (λ c. c == at) rest.now) }
+    ensures some { IfSome result.1 (λ rest. slice_split (λ c. c == at) text.now
+        ≡ result.0.now ∷ slice_split (λ c. c == at) rest.now) }
     ensures whole { IfNone result.1 (result.0.now ≡ text.now) }
     ensures shorter { IfSome result.1 (λ rest. length rest.now < length text.now) }
 {
