@@ -1,6 +1,6 @@
--- Reading and spelling rows, over lists. It serves the reader's inner contracts and its proofs: nobody has
--- to believe it.
-use Rattle.std.specs.Prelude.{◌≡◌, ℕ, zero, suc, ◌<◌, ◌≤◌, ◌^◌, ◌⊎◌, Bool, false, ◌&&◌, not, List, [], ◌∷◌, length, map, position, get_or, set, ◌+◌, Option, Some, None, Result, Ok, Err, ◌==◌, if◌then◌else◌}
+-- Reading and spelling rows, over lists. It serves the reader's inner contracts and its proofs:
+-- nobody has to believe it.
+use Rattle.std.specs.Prelude.{◌≡◌, ℕ, zero, suc, ◌<◌, ◌≤◌, ◌^◌, ◌⊎◌, Bool, false, ◌&&◌, not, List, [], ◌∷◌, length, map, position, get_or, Option, Some, None, Result, Ok, Err, ◌==◌, if◌then◌else◌}
 use Rattle.std.specs.Option.{ok_or}
 use Rattle.std.specs.Str.{bytes_eq}
 use denote.Ref.{Bor}
@@ -110,13 +110,6 @@ unfoldable pub next_of : List (List ℕ) → Result (List ℕ × List (List ℕ)
 next_of [] = Err fault.Fields
 next_of (field ∷ fields) = if length field == 0 then Err fault.Fields else Ok (field, fields)
 
--- the value of the next field, and the fields after it
-unfoldable pub read_next : FieldKind → List (List ℕ) → Result (ℕ × List (List ℕ)) RowFault
-read_next k fields = do
-  f ← next_of fields
-  v ← read_field k f.0
-  Ok (v, f.1)
-
 -- as many fields as kinds, none of them empty
 unfoldable pub has_shape : List FieldKind → List (List ℕ) → Bool
 has_shape [] fields = length fields == 0
@@ -143,12 +136,3 @@ padded (suc n) (v ∷ vs) = v ∷ padded n vs
 abbrev pub ok_padded : Result (List ℕ) RowFault → Result (List ℕ) RowFault
 ok_padded (Ok vs) = Ok (padded 4 vs)
 ok_padded (Err f) = Err f
-
--- values that are written from place k on
-abbrev pub written_from : ℕ → List ℕ → List ℕ → List ℕ
-written_from k [] values = values
-written_from k (v ∷ vs) values = written_from (k + 1) vs (set values k v)
-
-abbrev pub ok_from : ℕ → List ℕ → Result (List ℕ) RowFault → Result (List ℕ) RowFault
-ok_from k values (Ok vs) = Ok (written_from k vs values)
-ok_from k values (Err f) = Err f

@@ -42,6 +42,7 @@ pub enum RowFault {
 }
 
 /// Whether a number is in a range.
+#[inline(always)]
 fn within(range: &Range, number: u64) -> bool
     ensures { result ≡ is_in (range_in range.now) number }
 {
@@ -60,6 +61,7 @@ fn among(values: &[u64], number: u64) -> bool
 }
 
 /// The number of a field, if it has one and that is in its range.
+#[inline(always)]
 fn number(range: &Range, found: Option<u64>) -> Result<u64, RowFault>
     ensures { result ≡ ranged (range_in range.now) found }
 {
@@ -70,6 +72,7 @@ fn number(range: &Range, found: Option<u64>) -> Result<u64, RowFault>
     }
 }
 
+#[inline(always)]
 fn position_of(names: &[&str], field: &[u8]) -> Option<usize>
     ensures { result ≡ position (λ name. bytes_eq field.now name.now) names.now }
 {
@@ -77,6 +80,7 @@ fn position_of(names: &[&str], field: &[u8]) -> Option<usize>
 }
 
 /// The place of a field among some names.
+#[inline(always)]
 #[tactic(auto, using(crate::proofs::Cuts::position_map))]
 fn place_of(names: &[&str], field: &[u8]) -> Option<usize>
     ensures { result ≡ position (bytes_eq field.now) (map (λ name. name.now) names.now) }
@@ -85,6 +89,7 @@ fn place_of(names: &[&str], field: &[u8]) -> Option<usize>
 }
 
 /// The value of a field.
+#[inline(always)]
 pub fn value(kind: &FieldKind, field: &[u8]) -> Result<u64, RowFault>
     ensures { result ≡ read_field (kind_in kind.now) field.now }
 {
