@@ -33,6 +33,11 @@ fields_left (Some text) = fields_in text.now
 abbrev pub IsPast : ℕ → List ℕ → ℕ → Type 0
 IsPast at text k = (k ≤ length text) × ((j : ℕ) → j < k → (get_or text j 0 == at) ≡ false)
 
+-- none of the names before place k is this field
+abbrev pub IsPastNames : List ℕ → List (List ℕ) → ℕ → Type 0
+IsPastNames field names k =
+    (k ≤ length names) × ((j : ℕ) → j < k → bytes_eq field (get_or names j []) ≡ false)
+
 -- ---- kinds in the code
 
 abbrev pub range_in : RangeInCode → Range
@@ -41,10 +46,13 @@ range_in (range.Between first last) = Between first last
 range_in (range.Below limit) = Below limit
 range_in (range.Among values) = Among values.now
 
+abbrev pub names_in : List (Bor (List ℕ)) → List (List ℕ)
+names_in names = map (λ name. name.now) names
+
 abbrev pub kind_in : KindInCode → FieldKind
 kind_in (coded.Count r) = Count (range_in r)
 kind_in (coded.Address r) = Address (range_in r)
-kind_in (coded.Name names) = Name (map (λ name. name.now) names.now)
+kind_in (coded.Name names) = Name (names_in names.now)
 
 abbrev pub kinds_in : List KindInCode → List FieldKind
 kinds_in kinds = map kind_in kinds

@@ -79,6 +79,7 @@ fn prefixed(field: &[u8]) -> Option<u64>
 
 /// The number that a field spells as an address: 0x and 1 to 16 digits of 0 to 9, a to f, without a
 /// leading zero but for 0x0. `None` exactly where it is no address.
+#[inline(never)]
 #[tactic(auto, using(crate::proofs::NumeralLemmas::address_read, crate::proofs::NumeralLemmas::address_again))]
 pub fn address_of(field: &[u8]) -> Option<u64>
     ensures exact { result ≡ address_in field.now }

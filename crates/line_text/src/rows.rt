@@ -56,7 +56,6 @@ fn two(a: &FieldKind, b: &FieldKind, rest: Option<&[u8]>) -> Result<[u64; 2], Ro
     Ok([first, second])
 }
 
-#[inline(always)]
 #[tactic(auto, unfolding(crate::specs::InnerRows::read_values))]
 fn three(
     a: &FieldKind,
@@ -73,7 +72,6 @@ fn three(
     Ok([first, second, third])
 }
 
-#[inline(always)]
 #[tactic(auto, unfolding(crate::specs::InnerRows::read_values))]
 fn four(
     a: &FieldKind,
