@@ -124,6 +124,12 @@ has_shape [] fields = length fields == 0
 has_shape (k ∷ ks) [] = false
 has_shape (k ∷ ks) (f ∷ fs) = not (length f == 0) && has_shape ks fs
 
+-- n fields, none of them empty
+abbrev pub has_fields : ℕ → List (List ℕ) → Bool
+has_fields zero fields = length fields == 0
+has_fields (suc n) [] = false
+has_fields (suc n) (f ∷ fs) = not (length f == 0) && has_fields n fs
+
 unfoldable pub read_values : List FieldKind → List (List ℕ) → Result (List ℕ) RowFault
 read_values [] fields = if length fields == 0 then Ok [] else Err fault.Fields
 read_values (k ∷ ks) fields = do

@@ -1,22 +1,23 @@
 ghost use Rattle.std.specs.Prelude.{◌≡◌, ◌≤◌, ◌∷◌, [], IfOk, length};
 ghost use Rattle.std.specs.Result.{result_err};
 ghost use Rattle.line_text.specs.Rows.{row_fault};
-ghost use Rattle.line_text.specs.InnerRows.{kinds_in, fields_left, has_shape, FitsPrefix, kind_in, ok_padded, read_values, read_row, spell};
+ghost use Rattle.line_text.specs.InnerRows.{kinds_in, fields_left, has_fields, FitsPrefix, kind_in, ok_padded, read_values, read_row, spell};
 
 use crate::cutting::{next_field, no_field};
 use crate::kind::{FieldKind, RowFault, value};
 
-/// Whether there are as many fields as kinds, none of them empty.
-#[tactic(auto, unfolding(crate::specs::InnerRows::has_shape, crate::specs::InnerRows::next_of))]
-fn fits(kinds: &[FieldKind], rest: Option<&[u8]>) -> bool
-    ensures { result ≡ has_shape (kinds_in kinds.now) (fields_left rest.entry) }
+/// Whether there are that many fields, none of them empty. It takes the number of kinds and not the
+/// kinds, so that these need no place in memory where they are known.
+#[tactic(auto, using(crate::proofs::RowLemmas::no_more_fields, crate::proofs::RowLemmas::more_fields))]
+fn fits(count: usize, rest: Option<&[u8]>) -> bool
+    ensures { result ≡ has_fields count (fields_left rest.entry) }
 {
-    match kinds {
-        [] => no_field(rest),
-        [_, kinds @ ..] => match next_field(rest) {
-            Ok((_, rest)) => fits(kinds, rest),
-            Err(_) => false,
-        },
+    if count == 0 {
+        return no_field(rest);
+    }
+    match next_field(rest) {
+        Ok((_, rest)) => fits(count - 1, rest),
+        Err(_) => false,
     }
 }
 
@@ -121,14 +122,13 @@ fn values(kinds: &[FieldKind], rest: Option<&[u8]>) -> Result<[u64; 4], RowFault
 
 /// The values of a row, or its fault: the shape is looked at again only where a field is bad.
 #[inline(always)]
-#[tactic(auto, using(crate::proofs::RowLemmas::row_of_bad))]
 fn read(kinds: &[FieldKind], rest: Option<&[u8]>) -> Result<[u64; 4], RowFault>
     requires { length kinds.now ≤ 4 }
     ensures { result ≡ ok_padded (read_row (kinds_in kinds.now) (fields_left rest.entry)) }
 {
     match values(kinds, rest) {
         Ok(values) => Ok(values),
-        Err(fault) if fits(kinds, rest) => Err(fault),
+        Err(fault) if fits(kinds.len(), rest) => Err(fault),
         Err(_) => Err(RowFault::Fields),
     }
 }
