@@ -21,7 +21,6 @@ fn position_from(text: &[u8], at: u8, from: usize) -> Option<usize>
 }
 
 /// The place of the first byte `at`. It looks at four bytes a turn.
-#[inline(always)]
 fn position_of(text: &[u8], at: u8) -> Option<usize>
     ensures { result ≡ position (λ c. c == at) text.now }
 {
@@ -45,7 +44,6 @@ fn position_of(text: &[u8], at: u8) -> Option<usize>
 }
 
 /// What comes before the first byte `at`, and what comes after it, if there is one.
-#[inline(always)]
 pub fn cut(text: &[u8], at: u8) -> (&[u8], Option<&[u8]>)
     ensures none { IfNone result.1 (slice_split (λ c. c == at) text.now ≡ result.0.now ∷ []) }
     ensures some { IfSome result.1 (λ rest. slice_split (λ c. c == at) text.now

@@ -10,8 +10,8 @@ fn digit(base: u64, byte: u8) -> Option<u64>
     ensures { result ≡ (if is_digit_of base byte then Some (digit_of byte) else None) }
 {
     match byte {
-        b'0'..=b'9' => Some(u64::from(byte - b'0')),
-        b'a'..=b'f' if base == 16 => Some(u64::from(byte - b'a') + 10),
+        b'0'..=b'9' => Some(u64::from(byte) - u64::from(b'0')),
+        b'a'..=b'f' if base == 16 => Some(u64::from(byte) - u64::from(b'a') + 10),
         _ => None,
     }
 }

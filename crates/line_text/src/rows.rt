@@ -57,6 +57,7 @@ fn two(a: &FieldKind, b: &FieldKind, rest: Option<&[u8]>) -> Result<[u64; 2], Ro
     Ok([first, second])
 }
 
+#[inline(always)]
 #[tactic(auto, unfolding(crate::specs::InnerRows::read_values))]
 fn three(
     a: &FieldKind,

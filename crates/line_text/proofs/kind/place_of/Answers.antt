@@ -1,4 +1,4 @@
-use Rattle.std.proofs.Common.{◌<◌, ◌≤◌, length, sym, ap, ◌∙◌}
+use Rattle.std.proofs.Common.{ap, ◌∙◌}
 use Rattle.std.specs.Str.{bytes_eq}
 use Rattle.line_text.specs.InnerRows.{names_in}
 use Rattle.line_text.proofs.Cuts.{name_past, name_first, name_nowhere, name_tested, names_count}

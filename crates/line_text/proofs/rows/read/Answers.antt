@@ -1,4 +1,4 @@
-use Rattle.std.proofs.Common.{◌≡◌, Bool, List, length, ℕ, sym, ap, ◌∙◌}
+use Rattle.std.proofs.Common.{◌≡◌, List, length, ℕ, sym, ap, ◌∙◌}
 use Rattle.std.proofs.lemmas.List.{length-map}
 use Rattle.line_text.specs.declared.kind.FieldKind.{FieldKind}
 use Rattle.line_text.specs.InnerRows.{kind_in, kinds_in, fields_left, has_fields, has_shape}
