@@ -1,14 +1,16 @@
 -- Where a list is cut the first time.
-use Rattle.std.proofs.Common.{◌≡◌, ◌≢◌, ℕ, cond, false, ap, subst, ◌∙◌, ◌+◌, ◌-◌, ◌<◌, ◌≤◌, Bool, ltb, List, [], ◌∷◌, length, get_or, take, drop, Some, None, refl, inl, inr, arith}
-use Rattle.std.specs.Prelude.{position, map, ◌==◌, not}
+use Rattle.std.proofs.Common.{◌≡◌, ◌≢◌, ℕ, true, false, ap, subst, ◌∙◌, ◌+◌, ◌-◌, ◌<◌, ◌≤◌, Bool, ltb, List, [], ◌∷◌, length, get_or, take, drop, Some, None, refl, sym, inl, inr, arith}
+use Rattle.std.specs.Prelude.{position, ◌==◌}
 use Rattle.std.specs.List.{slice_split, position_or_len}
 use Rattle.std.proofs.lemmas.Bool.{cases_Bool, cases_eq, ltb-true, ltb-false, lt-ltb, le-ltb, eq-eqb, ne_eqb}
-use Rattle.std.proofs.lemmas.List.{take_rest, length-map}
+use Rattle.std.proofs.lemmas.List.{take_rest, length-map, get_or-map}
 use Rattle.std.proofs.lemmas.List.Splits.{slice_split_first}
 use Rattle.std.proofs.lemmas.List.Sums.{position_or_len_is}
 use Rattle.std.proofs.lemmas.Option.{same_Some}
+use Rattle.std.specs.Str.{bytes_eq}
+use denote.Ref.{Bor}
 use Rattle.line_text.specs.Lines.{fields_in}
-use Rattle.line_text.specs.InnerRows.{IsPast}
+use Rattle.line_text.specs.InnerRows.{IsPast, IsPastNames, names_in}
 use Rattle.line_text.proofs.Steps.{chosen}
 
 uncut : {X : Type 0} (p : X → Bool) (xs : List X) → length xs ≤ position_or_len p xs → slice_split p xs ≡ xs ∷ []
@@ -81,11 +83,30 @@ is_nowhere at text k past le =
     let place : position_or_len (λ c. c == at) text ≡ k = position_or_len_is (λ c. c == at) text k 0 past.0 past.1 (λ lt. absurd (omega arith)) in
     rw (place, le-ltb k (length text) le) refl
 
--- ---- places
+-- ---- the first place of a name
 
-prefix_map : {X Y : Type 0} (p : Y → Bool) (f : X → Y) (xs : List X) → position_or_len p (map f xs) ≡ position_or_len (λ x. p (f x)) xs
-prefix_map p f [] = refl
-prefix_map p f (x ∷ xs) = ap (λ (n : ℕ). cond (not (p (f x))) (1 + n) 0) (prefix_map p f xs)
+pub name_past : (field : List ℕ) (names : List (List ℕ)) (k : ℕ) → IsPastNames field names k → k < length names → bytes_eq field (get_or names k []) ≡ false → IsPastNames field names (k + 1)
+name_past field names k past lt e = (
+  omega arith,
+  λ j less. elim (cases_eq j k) [
+    | inl same ↦ ap (λ (n : ℕ). bytes_eq field (get_or names n [])) same ∙ e
+    | inr other ↦ past.1 j (omega arith)
+  ],
+)
 
-pub position_map : {X Y : Type 0} (p : Y → Bool) (f : X → Y) (xs : List X) → position p (map f xs) ≡ position (λ x. p (f x)) xs
-position_map p f xs = rw (prefix_map p f xs, length-map xs f) refl
+pub name_first : (field : List ℕ) (names : List (List ℕ)) (k : ℕ) → IsPastNames field names k → k < length names → bytes_eq field (get_or names k []) ≡ true → Some k ≡ position (bytes_eq field) names
+name_first field names k past lt e =
+    let place : position_or_len (bytes_eq field) names ≡ k = position_or_len_is (bytes_eq field) names k [] (omega arith) past.1 (λ _. e) in
+    rw (place, lt-ltb k (length names) lt) refl
+
+pub name_nowhere : (field : List ℕ) (names : List (List ℕ)) (k : ℕ) → IsPastNames field names k → length names ≤ k → None ≡ position (bytes_eq field) names
+name_nowhere field names k past le =
+    let place : position_or_len (bytes_eq field) names ≡ k = position_or_len_is (bytes_eq field) names k [] past.0 past.1 (λ lt. absurd (omega arith)) in
+    rw (place, le-ltb k (length names) le) refl
+
+-- a test of the name at place k in the code
+pub name_tested : (names : List (Bor (List ℕ))) (d : Bor (List ℕ)) (field : List ℕ) (k : ℕ) (b : Bool) → k < length names → b ≡ bytes_eq field (get_or names k d).now → bytes_eq field (get_or (names_in names) k []) ≡ b
+name_tested names d field k b lt e = ap (bytes_eq field) (get_or-map (λ name. name.now) names k d [] lt) ∙ sym e
+
+pub names_count : (names : List (Bor (List ℕ))) → length (names_in names) ≡ length names
+names_count names = length-map names (λ name. name.now)

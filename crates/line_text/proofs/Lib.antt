@@ -4,4 +4,3 @@ pub mod Steps
 pub mod Cuts
 pub mod RowLemmas
 pub mod LineLemmas
-pub mod RowLoop

@@ -1,6 +1,6 @@
 -- What is read of a row is spelled so and fits, what fits is read from its spelling, and a row's fault is the one
 -- that reading meets. Each is an induction over the kinds.
-use Rattle.std.proofs.Common.{◌≡◌, ℕ, zero, suc, ◌+◌, ltb, ◌<◌, ◌≤◌, ◌^◌, Bool, true, false, cond, List, [], ◌∷◌, length, map, get_or, Option, Some, None, Result, Ok, Err, refl, sym, ap, subst, ◌∙◌, arith, inl, inr}
+use Rattle.std.proofs.Common.{◌≡◌, ℕ, zero, suc, ◌+◌, ◌-◌, ltb, ◌<◌, ◌≤◌, ◌^◌, Bool, true, false, cond, List, [], ◌∷◌, length, map, get_or, Option, Some, None, Result, Ok, Err, refl, sym, ap, subst, ◌∙◌, arith, inl, inr}
 use Rattle.std.specs.Prelude.{◌==◌, ◌&&◌, not, nat_lt, nat_le, position, is_some, IfOk}
 use Rattle.std.specs.Result.{result_err}
 use Rattle.std.specs.List.{list_any, list_all, position_or_len, AllByRecursion}
@@ -18,7 +18,7 @@ use Rattle.line_text.specs.declared.kind.RowFault.TheVariants as fault
 use Rattle.line_text.specs.Lines.{count, address}
 use Rattle.line_text.specs.Numerals.{count_in, address_in}
 use Rattle.line_text.specs.Rows.{Range, Any, Between, Below, Among, is_in, FieldKind, Count, Address, Name, number_fault, field_fault, fields_fault, is_shaped, row_fault}
-use Rattle.line_text.specs.InnerRows.{◌>>=◌, IsAmong, InRange, FieldFits, Fits, FitsPrefix, name_at, spell_field, spell, ranged, read_field, next_of, has_shape, read_values, read_row, padded, ok_padded}
+use Rattle.line_text.specs.InnerRows.{◌>>=◌, IsAmong, InRange, FieldFits, Fits, FitsPrefix, name_at, spell_field, spell, ranged, read_field, next_of, has_shape, has_fields, read_values, read_row, padded, ok_padded}
 use Rattle.line_text.proofs.Steps.{chosen, bind_ok, ok_same, err_same}
 use Rattle.line_text.proofs.NumeralLemmas.{IsPlain, count_read, count_again, count_plain, address_read, address_again, address_plain}
 
@@ -208,6 +208,33 @@ shape_is (k ∷ ks) (f ∷ fs) =
     ap (λ (b : Bool). not (length f == 0) && b) (shape_is ks fs)
     ∙ swapped (not (length f == 0)) (length fs == length ks) (list_all (λ f. not (length f == 0)) fs)
     ∙ ap (λ (b : Bool). b && (not (length f == 0) && list_all (λ f. not (length f == 0)) fs)) (sym (suc_eqb (length fs) (length ks)))
+
+-- the shape depends on the number of kinds alone
+pub shape_counts : (ks : List FieldKind) (fs : List (List ℕ)) → has_fields (length ks) fs ≡ has_shape ks fs
+unfolding has_shape
+shape_counts [] fs = refl
+shape_counts (k ∷ ks) [] = refl
+shape_counts (k ∷ ks) (f ∷ fs) = ap (λ (b : Bool). not (length f == 0) && b) (shape_counts ks fs)
+
+pub no_more_fields : (n : ℕ) (fs : List (List ℕ)) (e : RowFault) → (n == 0) ≡ false → next_of fs ≡ Err e → false ≡ has_fields n fs
+unfolding next_of
+no_more_fields zero fs e some next = absurd cc
+no_more_fields (suc n) [] e some next = refl
+no_more_fields (suc n) (f ∷ fs) e some next =
+    elim (cases_Bool (length f == 0)) [ inl t ↦ rw t refl | inr full ↦ absurd (let wrong = rw full at next in cc) ]
+
+less_one : (n : ℕ) → suc n - 1 ≡ n
+less_one n = omega arith
+
+pub more_fields : (n : ℕ) (fs : List (List ℕ)) (f : List ℕ) (more : List (List ℕ)) → (n == 0) ≡ false → next_of fs ≡ Ok (f, more) → has_fields (n - 1) more ≡ has_fields n fs
+unfolding next_of
+more_fields zero fs f more some next = absurd cc
+more_fields (suc n) [] f more some next = absurd cc
+more_fields (suc n) (g ∷ gs) f more some next =
+    elim (cases_Bool (length g == 0)) [
+      | inl t ↦ absurd (let wrong = rw t at next in cc)
+      | inr full ↦ let is = rw full at next in rw full (ap (λ (m : ℕ). has_fields m more) (less_one n) ∙ ap (has_fields n) (sym (ap (λ (x : List ℕ × List (List ℕ)). x.1) (ok_same {E = RowFault} (g, gs) (f, more) is))))
+    ]
 
 -- ---- the values
 

@@ -1,6 +1,6 @@
--- Reading and spelling rows, over lists. It serves the reader's inner contracts and its proofs: nobody has
--- to believe it.
-use Rattle.std.specs.Prelude.{◌≡◌, ℕ, zero, suc, ◌<◌, ◌≤◌, ◌^◌, ◌⊎◌, Bool, false, ◌&&◌, not, List, [], ◌∷◌, length, map, position, get_or, set, ◌+◌, Option, Some, None, Result, Ok, Err, ◌==◌, if◌then◌else◌}
+-- Reading and spelling rows, over lists. It serves the reader's inner contracts and its proofs:
+-- nobody has to believe it.
+use Rattle.std.specs.Prelude.{◌≡◌, ℕ, zero, suc, ◌<◌, ◌≤◌, ◌^◌, ◌⊎◌, Bool, false, ◌&&◌, not, List, [], ◌∷◌, length, map, position, get_or, Option, Some, None, Result, Ok, Err, ◌==◌, if◌then◌else◌}
 use Rattle.std.specs.Option.{ok_or}
 use Rattle.std.specs.Str.{bytes_eq}
 use denote.Ref.{Bor}
@@ -33,6 +33,11 @@ fields_left (Some text) = fields_in text.now
 abbrev pub IsPast : ℕ → List ℕ → ℕ → Type 0
 IsPast at text k = (k ≤ length text) × ((j : ℕ) → j < k → (get_or text j 0 == at) ≡ false)
 
+-- none of the names before place k is this field
+abbrev pub IsPastNames : List ℕ → List (List ℕ) → ℕ → Type 0
+IsPastNames field names k =
+    (k ≤ length names) × ((j : ℕ) → j < k → bytes_eq field (get_or names j []) ≡ false)
+
 -- ---- kinds in the code
 
 abbrev pub range_in : RangeInCode → Range
@@ -41,10 +46,13 @@ range_in (range.Between first last) = Between first last
 range_in (range.Below limit) = Below limit
 range_in (range.Among values) = Among values.now
 
+abbrev pub names_in : List (Bor (List ℕ)) → List (List ℕ)
+names_in names = map (λ name. name.now) names
+
 abbrev pub kind_in : KindInCode → FieldKind
 kind_in (coded.Count r) = Count (range_in r)
 kind_in (coded.Address r) = Address (range_in r)
-kind_in (coded.Name names) = Name (map (λ name. name.now) names.now)
+kind_in (coded.Name names) = Name (names_in names.now)
 
 abbrev pub kinds_in : List KindInCode → List FieldKind
 kinds_in kinds = map kind_in kinds
@@ -110,18 +118,17 @@ unfoldable pub next_of : List (List ℕ) → Result (List ℕ × List (List ℕ)
 next_of [] = Err fault.Fields
 next_of (field ∷ fields) = if length field == 0 then Err fault.Fields else Ok (field, fields)
 
--- the value of the next field, and the fields after it
-unfoldable pub read_next : FieldKind → List (List ℕ) → Result (ℕ × List (List ℕ)) RowFault
-read_next k fields = do
-  f ← next_of fields
-  v ← read_field k f.0
-  Ok (v, f.1)
-
 -- as many fields as kinds, none of them empty
 unfoldable pub has_shape : List FieldKind → List (List ℕ) → Bool
 has_shape [] fields = length fields == 0
 has_shape (k ∷ ks) [] = false
 has_shape (k ∷ ks) (f ∷ fs) = not (length f == 0) && has_shape ks fs
+
+-- n fields, none of them empty
+abbrev pub has_fields : ℕ → List (List ℕ) → Bool
+has_fields zero fields = length fields == 0
+has_fields (suc n) [] = false
+has_fields (suc n) (f ∷ fs) = not (length f == 0) && has_fields n fs
 
 unfoldable pub read_values : List FieldKind → List (List ℕ) → Result (List ℕ) RowFault
 read_values [] fields = if length fields == 0 then Ok [] else Err fault.Fields
@@ -143,12 +150,3 @@ padded (suc n) (v ∷ vs) = v ∷ padded n vs
 abbrev pub ok_padded : Result (List ℕ) RowFault → Result (List ℕ) RowFault
 ok_padded (Ok vs) = Ok (padded 4 vs)
 ok_padded (Err f) = Err f
-
--- values that are written from place k on
-abbrev pub written_from : ℕ → List ℕ → List ℕ → List ℕ
-written_from k [] values = values
-written_from k (v ∷ vs) values = written_from (k + 1) vs (set values k v)
-
-abbrev pub ok_from : ℕ → List ℕ → Result (List ℕ) RowFault → Result (List ℕ) RowFault
-ok_from k values (Ok vs) = Ok (written_from k vs values)
-ok_from k values (Err f) = Err f

@@ -20,7 +20,9 @@ is_numeral base [] = false
 is_numeral base (c ∷ cs) = list_all (is_digit_of base) (c ∷ cs) && (not (c == 48) || length cs == 0)
 
 abbrev pub numeral_in : ℕ → List ℕ → Option ℕ
-numeral_in base text = if is_numeral base text && nat_lt (value_in base text) (2 ^ 64) then Some (value_in base text) else None
+numeral_in base text =
+    if is_numeral base text && nat_lt (value_in base text) (2 ^ 64)
+    then Some (value_in base text) else None
 
 -- a count is in decimal
 unfoldable pub count_in : List ℕ → Option ℕ
@@ -28,4 +30,5 @@ count_in field = numeral_in 10 field
 
 -- an address is 0x and a numeral in base 16
 unfoldable pub address_in : List ℕ → Option ℕ
-address_in field = if bytes_eq (take 2 field) (codes "0x") then numeral_in 16 (drop 2 field) else None
+address_in field =
+    if bytes_eq (take 2 field) (codes "0x") then numeral_in 16 (drop 2 field) else None

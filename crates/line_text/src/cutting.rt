@@ -46,7 +46,8 @@ fn position_of(text: &[u8], at: u8) -> Option<usize>
 /// What comes before the first byte `at`, and what comes after it, if there is one.
 pub fn cut(text: &[u8], at: u8) -> (&[u8], Option<&[u8]>)
     ensures none { IfNone result.1 (slice_split (λ c. c == at) text.now ≡ result.0.now ∷ []) }
-    ensures some { IfSome result.1 (λ rest. slice_split (λ c. c == at) text.now ≡ result.0.now ∷ slice_split (λ c. c == at) rest.now) }
+    ensures some { IfSome result.1 (λ rest. slice_split (λ c. c == at) text.now
+        ≡ result.0.now ∷ slice_split (λ c. c == at) rest.now) }
     ensures whole { IfNone result.1 (result.0.now ≡ text.now) }
     ensures shorter { IfSome result.1 (λ rest. length rest.now < length text.now) }
 {
@@ -71,6 +72,7 @@ pub fn next_line(bytes: &[u8]) -> Option<(&[u8], &[u8])>
 }
 
 /// The next field, which isn't empty, and what has the ones after it.
+#[inline(always)]
 #[tactic(auto, unfolding(crate::specs::InnerRows::next_of))]
 pub fn next_field(rest: Option<&[u8]>) -> Result<(&[u8], Option<&[u8]>), RowFault>
     ensures { Gives (λ x. (x.0.now, fields_left x.1)) result (next_of (fields_left rest.entry)) }

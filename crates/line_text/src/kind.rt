@@ -1,8 +1,8 @@
-ghost use Rattle.std.specs.Prelude.{◌≡◌, ◌==◌, map, position};
+ghost use Rattle.std.specs.Prelude.{◌≡◌, ◌==◌, position};
 ghost use Rattle.std.specs.List.{list_any};
 ghost use Rattle.std.specs.Str.{bytes_eq};
 ghost use Rattle.line_text.specs.Rows.{is_in};
-ghost use Rattle.line_text.specs.InnerRows.{range_in, kind_in, ranged, read_field};
+ghost use Rattle.line_text.specs.InnerRows.{range_in, names_in, kind_in, ranged, read_field};
 
 use crate::numeral::{address_of, count_of};
 
@@ -42,6 +42,7 @@ pub enum RowFault {
 }
 
 /// Whether a number is in a range.
+#[inline(always)]
 fn within(range: &Range, number: u64) -> bool
     ensures { result ≡ is_in (range_in range.now) number }
 {
@@ -60,6 +61,7 @@ fn among(values: &[u64], number: u64) -> bool
 }
 
 /// The number of a field, if it has one and that is in its range.
+#[inline(always)]
 fn number(range: &Range, found: Option<u64>) -> Result<u64, RowFault>
     ensures { result ≡ ranged (range_in range.now) found }
 {
@@ -70,21 +72,23 @@ fn number(range: &Range, found: Option<u64>) -> Result<u64, RowFault>
     }
 }
 
-fn position_of(names: &[&str], field: &[u8]) -> Option<usize>
-    ensures { result ≡ position (λ name. bytes_eq field.now name.now) names.now }
-{
-    names.iter().position(|name| field == name.as_bytes())
-}
-
 /// The place of a field among some names.
-#[tactic(auto, using(crate::proofs::Cuts::position_map))]
+#[inline(always)]
 fn place_of(names: &[&str], field: &[u8]) -> Option<usize>
-    ensures { result ≡ position (bytes_eq field.now) (map (λ name. name.now) names.now) }
+    ensures { result ≡ position (bytes_eq field.now) (names_in names.now) }
 {
-    position_of(names, field)
+    let mut k = 0;
+    while k < names.len() {
+        if field == names[k].as_bytes() {
+            return Some(k);
+        }
+        k += 1;
+    }
+    None
 }
 
 /// The value of a field.
+#[inline(always)]
 pub fn value(kind: &FieldKind, field: &[u8]) -> Result<u64, RowFault>
     ensures { result ≡ read_field (kind_in kind.now) field.now }
 {

@@ -1,5 +1,5 @@
-//! Lines of text: fields between single spaces, each line ended by a line feed. A field is a count, an
-//! address or a name, and a row says what each field of a line has to be. No call takes memory.
+//! Lines of text: fields between single spaces, each line ended by a line feed. A field is a count,
+//! an address or a name, and a row says what each field of a line has to be. No call takes memory.
 #![tactic(auto)]
 
 mod cutting;

@@ -4,18 +4,20 @@ ghost use Rattle.line_text.specs.Numerals.{is_digit_of, digit_of, numeral_in, co
 ghost use Rattle.line_text.specs.InnerNumerals.{IsBase, pushed_in, rest_in};
 
 /// What a byte counts as a digit of this base, if it is one.
+#[inline(always)]
 fn digit(base: u64, byte: u8) -> Option<u64>
     requires { IsBase base }
     ensures { result ≡ (if is_digit_of base byte then Some (digit_of byte) else None) }
 {
     match byte {
-        b'0'..=b'9' => Some(u64::from(byte - b'0')),
-        b'a'..=b'f' if base == 16 => Some(u64::from(byte - b'a') + 10),
+        b'0'..=b'9' => Some(u64::from(byte) - u64::from(b'0')),
+        b'a'..=b'f' if base == 16 => Some(u64::from(byte) - u64::from(b'a') + 10),
         _ => None,
     }
 }
 
 /// The number of a digit after these, if it is below 2^64.
+#[inline(always)]
 fn pushed(base: u64, value: u64, byte: u8) -> Option<u64>
     requires { IsBase base }
     ensures { result ≡ pushed_in base value byte }
@@ -25,6 +27,7 @@ fn pushed(base: u64, value: u64, byte: u8) -> Option<u64>
 }
 
 /// The number that digits spell, if it is below 2^64. It stops at the first digit that passes that.
+#[inline(always)]
 #[tactic(auto, using(crate::proofs::DigitLemmas::rest_stops_at, crate::proofs::DigitLemmas::rest_ends_at))]
 fn value(base: u64, digits: &[u8]) -> Option<u64>
     requires { IsBase base }
@@ -38,6 +41,7 @@ fn value(base: u64, digits: &[u8]) -> Option<u64>
 }
 
 /// The number that a numeral spells: some digits, without a leading zero but for 0 itself.
+#[inline(always)]
 #[tactic(auto, using(crate::proofs::DigitLemmas::one_digit))]
 fn numeral(base: u64, digits: &[u8]) -> Option<u64>
     requires { IsBase base }
@@ -62,6 +66,7 @@ pub fn count_of(field: &[u8]) -> Option<u64>
 }
 
 /// The number of a field that is 0x and a numeral.
+#[inline(always)]
 #[tactic(auto, unfolding(crate::specs::Numerals::address_in))]
 fn prefixed(field: &[u8]) -> Option<u64>
     ensures { result ≡ address_in field.now }
@@ -74,6 +79,7 @@ fn prefixed(field: &[u8]) -> Option<u64>
 
 /// The number that a field spells as an address: 0x and 1 to 16 digits of 0 to 9, a to f, without a
 /// leading zero but for 0x0. `None` exactly where it is no address.
+#[inline(never)]
 #[tactic(auto, using(crate::proofs::NumeralLemmas::address_read, crate::proofs::NumeralLemmas::address_again))]
 pub fn address_of(field: &[u8]) -> Option<u64>
     ensures exact { result ≡ address_in field.now }

@@ -11,5 +11,6 @@ calls_of (script.Cpu looks) = length looks
 -- a list of answers for each script, none longer than the script's calls
 abbrev pub AreAnswersOf : {A : Type 0} → List Script → List (List A) → Type 0
 AreAnswersOf [] [] = Unit {0}
-AreAnswersOf (s ∷ scripts) (own ∷ answers) = (length own ≤ calls_of s) × AreAnswersOf scripts answers
+AreAnswersOf (s ∷ scripts) (own ∷ answers) =
+    (length own ≤ calls_of s) × AreAnswersOf scripts answers
 AreAnswersOf scripts answers = ⊥

@@ -1,5 +1,5 @@
--- The first bad line of a text and its fault, over the list of its lines: which line may come where, and
--- what the fields of a line have to be.
+-- The first bad line of a text and its fault, over the list of its lines: which line may come
+-- where, and what the fields of a line have to be.
 use Rattle.std.specs.Prelude.{◌≡◌, ℕ, ◌+◌, ◌*◌, Bool, true, false, ◌&&◌, not, List, [], ◌∷◌, Option, Some, None, unwrap_or, ◌==◌, nat_lt, nat_le, codes, if◌then◌else◌}
 use Rattle.std.specs.List.{find}
 use Rattle.std.specs.Str.{bytes_eq}
@@ -40,9 +40,10 @@ word_text word.End = codes "end"
 
 abbrev pub all_words : List Word
 all_words =
-    word.Look ∷ word.Turn ∷ word.Round ∷ word.Delegate ∷ word.Undelegate ∷ word.Smc ∷ word.Region ∷ word.Agent ∷ word.Cpu
-    ∷ word.End ∷ word.Setting setting.Gpt ∷ word.Setting setting.Space ∷ word.Setting setting.Max ∷ word.Setting setting.Locks
-    ∷ word.Setting setting.First ∷ word.Setting setting.Ring ∷ word.Setting setting.Tables ∷ word.Setting setting.Base ∷ []
+    word.Look ∷ word.Turn ∷ word.Round ∷ word.Delegate ∷ word.Undelegate ∷ word.Smc ∷ word.Region
+    ∷ word.Agent ∷ word.Cpu ∷ word.End ∷ word.Setting setting.Gpt ∷ word.Setting setting.Space
+    ∷ word.Setting setting.Max ∷ word.Setting setting.Locks ∷ word.Setting setting.First
+    ∷ word.Setting setting.Ring ∷ word.Setting setting.Tables ∷ word.Setting setting.Base ∷ []
 
 -- the word that a field is
 unfoldable pub word_of : List ℕ → Option Word
@@ -110,7 +111,8 @@ abbrev pub kinds_of : Context → Word → List FieldKind
 kinds_of st (word.Setting s) = setting_kind s ∷ []
 kinds_of st word.Region =
     Address Any ∷ Address Any ∷ Name (codes "block" ∷ codes "granule" ∷ [])
-    ∷ Name (codes "none" ∷ codes "secure" ∷ codes "nonsecure" ∷ codes "root" ∷ codes "realm" ∷ codes "any" ∷ []) ∷ []
+    ∷ Name (codes "none" ∷ codes "secure" ∷ codes "nonsecure" ∷ codes "root" ∷ codes "realm"
+    ∷ codes "any" ∷ []) ∷ []
 kinds_of st word.Delegate = Address Any ∷ Name (codes "realm" ∷ codes "secure" ∷ []) ∷ []
 kinds_of st word.Undelegate = Address Any ∷ Name (codes "realm" ∷ codes "secure" ∷ []) ∷ []
 kinds_of st word.Smc =
@@ -215,7 +217,8 @@ first_bad_from n st [] = None
 first_bad_from n st (rest ∷ []) = rest_fault st.place n rest
 first_bad_from n st (line ∷ next ∷ more) =
     if is_ended st.place then Some (n, fault.After) else
-    next_bad n (line_fault st (fields_in line)) (first_bad_from (n + 1) (after_line st (fields_in line)) (next ∷ more))
+    next_bad n (line_fault st (fields_in line)) (
+    first_bad_from (n + 1) (after_line st (fields_in line)) (next ∷ more))
 
 -- the first bad line of a text, counted from 1, and its fault
 unfoldable pub first_bad : List ℕ → Option (ℕ × Fault)

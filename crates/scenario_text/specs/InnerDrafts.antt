@@ -1,5 +1,5 @@
--- A scenario as far as its lines have been read, for the reader's inner contracts: no public contract
--- names it, and nobody has to believe it.
+-- A scenario as far as its lines have been read, for the reader's inner contracts: no public
+-- contract names it, and nobody has to believe it.
 use Rattle.std.specs.Prelude.{List, [], ◌∷◌, ◌++◌, Option, Some, None, Result, Ok, Err, ℕ, ◌==◌, if◌then◌else◌}
 use Rattle.gpt_descriptors.specs.declared.size.MaxBlock.{MaxBlock}
 use Rattle.gpt_descriptors.specs.declared.size.MaxBlock.TheVariants as most
@@ -31,10 +31,19 @@ pub record DraftData : Type 0 where
 
 -- before the first line; each field of the setup has some value that it may have
 abbrev pub first_setup : SetupData
-first_setup = record { gigabytes = 4; max = most.Zero; lock_blocks = 0; first = 0; ring = 1; tables = 0; base = 0 }
+first_setup = record {
+  gigabytes = 4;
+  max = most.Zero;
+  lock_blocks = 0;
+  first = 0;
+  ring = 1;
+  tables = 0;
+  base = 0;
+}
 
 abbrev pub nothing_read : DraftData
-nothing_read = record { setup = first_setup; regions = []; scripts = []; opened = None; schedule = [] }
+nothing_read =
+    record { setup = first_setup; regions = []; scripts = []; opened = None; schedule = [] }
 
 -- the finished scripts once the one that is being read is finished
 abbrev pub closed : List Script → Option Script → List Script
@@ -50,7 +59,10 @@ with_look (Some (script.Cpu looks)) l = Some (script.Cpu (looks ++ l ∷ []))
 with_look o l = o
 
 abbrev pub max_of : ℕ → MaxBlock
-max_of n = if n == 2 then most.Two else if n == 32 then most.ThirtyTwo else if n == 512 then most.FiveTwelve else most.Zero
+max_of n =
+    if n == 2 then most.Two else
+    if n == 32 then most.ThirtyTwo else
+    if n == 512 then most.FiveTwelve else most.Zero
 
 abbrev pub setup_with : SetupData → Setting → ℕ → SetupData
 setup_with s setting.Gpt n = s
@@ -66,11 +78,17 @@ setup_with s setting.Base n = record s { base = n }
 abbrev pub taken : DraftData → Line → DraftData
 taken d (says.OneSetting s n) = record d { setup = setup_with d.setup s n }
 taken d (says.OneRegion r) = record d { regions = d.regions ++ r ∷ [] }
-taken d says.NewAgent = record d { scripts = closed d.scripts d.opened; opened = Some (script.Agent []) }
-taken d says.NewCpu = record d { scripts = closed d.scripts d.opened; opened = Some (script.Cpu []) }
+taken d says.NewAgent =
+    record d { scripts = closed d.scripts d.opened; opened = Some (script.Agent []) }
+taken d says.NewCpu =
+    record d { scripts = closed d.scripts d.opened; opened = Some (script.Cpu []) }
 taken d (says.OneAsk a) = record d { opened = with_ask d.opened a }
 taken d (says.OneLook l) = record d { opened = with_look d.opened l }
-taken d (says.OneSlot s) = record d { scripts = closed d.scripts d.opened; opened = None; schedule = d.schedule ++ s ∷ [] }
+taken d (says.OneSlot s) = record d {
+  scripts = closed d.scripts d.opened;
+  opened = None;
+  schedule = d.schedule ++ s ∷ [];
+}
 taken d says.End = record d { scripts = closed d.scripts d.opened; opened = None }
 
 abbrev pub taken_all : DraftData → List Line → DraftData
@@ -79,7 +97,8 @@ taken_all d (l ∷ ls) = taken_all (taken d l) ls
 
 -- the scenario that a finished draft has
 abbrev pub scenario_of : DraftData → Scenario
-scenario_of d = record { setup = d.setup; regions = d.regions; scripts = d.scripts; schedule = d.schedule }
+scenario_of d =
+    record { setup = d.setup; regions = d.regions; scripts = d.scripts; schedule = d.schedule }
 
 -- the scenario of a draft and the lines that are read after it
 abbrev pub scenario_with : DraftData → Result (List Line) (ℕ × Fault) → Result Scenario (ℕ × Fault)

@@ -1,5 +1,5 @@
--- Reading the lines of a text from left to right, with the first fault that is met, over lists. It serves the
--- reader's inner contracts: no public contract names it, and nobody has to believe it.
+-- Reading the lines of a text from left to right, with the first fault that is met, over lists. It
+-- serves the reader's inner contracts: no public contract names it, and nobody has to believe it.
 use Rattle.std.specs.Prelude.{◌≡◌, ℕ, ◌+◌, ◌*◌, ◌<◌, ◌≤◌, ◌^◌, true, List, [], ◌∷◌, get_or, Option, Some, None, Result, Ok, Err, ◌==◌, ◌&&◌, nat_lt, nat_le, if◌then◌else◌}
 use Rattle.gpi_values.specs.declared.gpi.Gpi.{Gpi}
 use Rattle.gpi_values.specs.declared.gpi.Gpi.TheVariants as gpi
@@ -65,18 +65,27 @@ line_with word.Region vs = says.OneRegion (record {
   gpi = get_or all_gpis (get_or vs 3 0) gpi.NoAccess;
 })
 line_with word.Agent vs = says.NewAgent
-line_with word.Delegate vs = says.OneAsk (ask.Delegate (get_or vs 0 0) (get_or all_sources (get_or vs 1 0) source.Realm))
-line_with word.Undelegate vs = says.OneAsk (ask.Undelegate (get_or vs 0 0) (get_or all_sources (get_or vs 1 0) source.Realm))
-line_with word.Smc vs = says.OneAsk (monitor_call (get_or vs 0 0) (get_or vs 1 0) (get_or all_worlds (get_or vs 2 0) world.Realm))
+line_with word.Delegate vs =
+    says.OneAsk (ask.Delegate (get_or vs 0 0) (get_or all_sources (get_or vs 1 0) source.Realm))
+line_with word.Undelegate vs =
+    says.OneAsk (ask.Undelegate (get_or vs 0 0) (get_or all_sources (get_or vs 1 0) source.Realm))
+line_with word.Smc vs =
+    says.OneAsk (monitor_call (get_or vs 0 0) (get_or vs 1 0)
+    (get_or all_worlds (get_or vs 2 0) world.Realm))
 line_with word.Cpu vs = says.NewCpu
-line_with word.Look vs = says.OneLook (record { pa = get_or vs 0 0; space = get_or all_spaces (get_or vs 1 0) space.Secure })
+line_with word.Look vs = says.OneLook (record {
+  pa = get_or vs 0 0;
+  space = get_or all_spaces (get_or vs 1 0) space.Secure;
+})
 line_with word.Turn vs = says.OneSlot (slot.Turn (get_or vs 0 0) (get_or vs 1 0))
 line_with word.Round vs = says.OneSlot (slot.Round (get_or vs 0 0) (get_or vs 1 0))
 line_with word.End vs = says.End
 
 -- a line, if its turns have room
 abbrev pub in_turns : Context → Line → Result Line Fault
-in_turns st (says.OneSlot s) = if nat_lt turn_limit (st.turns + turns_of st.callers s) then Err fault.Limit else Ok (says.OneSlot s)
+in_turns st (says.OneSlot s) =
+    if nat_lt turn_limit (st.turns + turns_of st.callers s) then Err fault.Limit
+    else Ok (says.OneSlot s)
 in_turns st l = Ok l
 
 abbrev pub or_fault : {A : Type 0} → Result A RowFault → Result A Fault
@@ -84,15 +93,19 @@ or_fault (Ok x) = Ok x
 or_fault (Err f) = Err (fault_of f)
 
 abbrev pub read_values : Context → Word → List (List ℕ) → Result Line Fault
-read_values st w fields = or_fault (ok_padded (read_row (kinds_of st w) fields)) >>= λ vs. in_turns st (line_with w vs)
+read_values st w fields =
+    or_fault (ok_padded (read_row (kinds_of st w) fields)) >>= λ vs. in_turns st (line_with w vs)
 
 -- an agent or a processor, if one more caller has room
 unfoldable pub read_word : Context → Word → List (List ℕ) → Result Line Fault
-read_word st w fields = if is_caller w && nat_le caller_limit st.callers then Err fault.Limit else read_values st w fields
+read_word st w fields =
+    if is_caller w && nat_le caller_limit st.callers then Err fault.Limit
+    else read_values st w fields
 
 abbrev pub read_known : Context → Option Word → List (List ℕ) → Result Line Fault
 read_known st None fields = Err fault.Word
-read_known st (Some w) fields = if may_come st.place w then read_word st w fields else Err fault.Word
+read_known st (Some w) fields =
+    if may_come st.place w then read_word st w fields else Err fault.Word
 
 abbrev pub read_fields : Context → List (List ℕ) → Result Line Fault
 read_fields st [] = Err fault.Word

@@ -53,13 +53,18 @@ kind_name kind.Granule = codes "granule"
 
 abbrev pub fields_of : Line → List (List ℕ)
 fields_of (OneSetting s n) = setting_name s ∷ setting_value s n ∷ []
-fields_of (OneRegion r) = codes "region" ∷ address r.base ∷ address r.size ∷ kind_name r.kind ∷ name_of r.gpi ∷ []
+fields_of (OneRegion r) =
+    codes "region" ∷ address r.base ∷ address r.size ∷ kind_name r.kind ∷ name_of r.gpi ∷ []
 fields_of NewAgent = codes "agent" ∷ []
 fields_of NewCpu = codes "cpu" ∷ []
-fields_of (OneAsk (ask.Delegate pa source)) = codes "delegate" ∷ address pa ∷ source_name_of source ∷ []
-fields_of (OneAsk (ask.Undelegate pa source)) = codes "undelegate" ∷ address pa ∷ source_name_of source ∷ []
-fields_of (OneAsk (ask.SmcDelegate pa world)) = codes "smc" ∷ codes "delegate" ∷ address pa ∷ world_name_of world ∷ []
-fields_of (OneAsk (ask.SmcUndelegate pa world)) = codes "smc" ∷ codes "undelegate" ∷ address pa ∷ world_name_of world ∷ []
+fields_of (OneAsk (ask.Delegate pa source)) =
+    codes "delegate" ∷ address pa ∷ source_name_of source ∷ []
+fields_of (OneAsk (ask.Undelegate pa source)) =
+    codes "undelegate" ∷ address pa ∷ source_name_of source ∷ []
+fields_of (OneAsk (ask.SmcDelegate pa world)) =
+    codes "smc" ∷ codes "delegate" ∷ address pa ∷ world_name_of world ∷ []
+fields_of (OneAsk (ask.SmcUndelegate pa world)) =
+    codes "smc" ∷ codes "undelegate" ∷ address pa ∷ world_name_of world ∷ []
 fields_of (OneLook look) = codes "look" ∷ address look.pa ∷ space_name_of look.space ∷ []
 fields_of (OneSlot (slot.Turn caller turns)) = codes "turn" ∷ count caller ∷ count turns ∷ []
 fields_of (OneSlot (slot.Round turns times)) = codes "round" ∷ count turns ∷ count times ∷ []
@@ -73,8 +78,9 @@ line_text l = line (fields_of l)
 -- the version of the format is 1
 abbrev pub head_lines : SetupData → List Line
 head_lines s =
-    OneSetting setting.Gpt 1 ∷ OneSetting setting.Space s.gigabytes ∷ OneSetting setting.Max (max_count s.max)
-    ∷ OneSetting setting.Locks s.lock_blocks ∷ OneSetting setting.First s.first ∷ OneSetting setting.Ring s.ring
+    OneSetting setting.Gpt 1 ∷ OneSetting setting.Space s.gigabytes
+    ∷ OneSetting setting.Max (max_count s.max) ∷ OneSetting setting.Locks s.lock_blocks
+    ∷ OneSetting setting.First s.first ∷ OneSetting setting.Ring s.ring
     ∷ OneSetting setting.Tables s.tables ∷ OneSetting setting.Base s.base ∷ []
 
 abbrev pub script_lines : Script → List Line
@@ -84,7 +90,8 @@ script_lines (script.Cpu looks) = NewCpu ∷ map OneLook looks
 -- the lines of a scenario, in their order
 abbrev pub lines_of : Scenario → List Line
 lines_of s =
-    head_lines s.setup ++ map OneRegion s.regions ++ flat_map script_lines s.scripts ++ map OneSlot s.schedule ++ End ∷ []
+    head_lines s.setup ++ map OneRegion s.regions ++ flat_map script_lines s.scripts
+    ++ map OneSlot s.schedule ++ End ∷ []
 
 -- the one text of a scenario
 unfoldable pub text_of : Scenario → List ℕ
@@ -114,7 +121,8 @@ IsScript s (script.Cpu looks) = AllByRecursion (λ look. look.pa < space_bytes s
 
 abbrev pub IsSlot : ℕ → Slot → Type 0
 IsSlot callers (slot.Turn caller turns) = (caller < callers) × (1 ≤ turns) × (turns ≤ turn_limit)
-IsSlot callers (slot.Round turns times) = (1 ≤ turns) × (turns ≤ turn_limit) × (1 ≤ times) × (times ≤ turn_limit)
+IsSlot callers (slot.Round turns times) =
+    (1 ≤ turns) × (turns ≤ turn_limit) × (1 ≤ times) × (times ≤ turn_limit)
 
 -- the turns of a line of the schedule
 abbrev pub turns_of : ℕ → Slot → ℕ

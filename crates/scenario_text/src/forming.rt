@@ -94,8 +94,8 @@ fn scripts_good(setup: &Setup, scripts: &[Script]) -> bool
     scripts.iter().all(|script| script_good(setup, script))
 }
 
-/// Whether all turns of good lines are within the limit. It stops at the first line that passes it, so
-/// that the sum can't overflow.
+/// Whether all turns of good lines are within the limit. It stops at the first line that passes it,
+/// so that the sum can't overflow.
 fn turns_within(callers: u64, schedule: &[Slot]) -> bool
     requires callers { callers ≤ caller_limit }
     requires slots { All (IsSlot callers) schedule.now }
@@ -113,7 +113,8 @@ fn turns_within(callers: u64, schedule: &[Slot]) -> bool
 
 fn schedule_good(callers: u64, schedule: &[Slot]) -> bool
     requires { callers ≤ caller_limit }
-    ensures { IsTrue result ↔ (All (IsSlot callers) schedule.now × (sum_by (turns_of callers) schedule.now ≤ turn_limit)) }
+    ensures { IsTrue result ↔ (All (IsSlot callers) schedule.now
+        × (sum_by (turns_of callers) schedule.now ≤ turn_limit)) }
 {
     slots_good(callers, schedule) && turns_within(callers, schedule)
 }

@@ -52,9 +52,11 @@ pub fn parse(alloc: Global, bytes: &[u8]) -> Result<Scenario, TextError>
     // What is read has this text.
     ensures text { IfOk result (λ s. WellFormed s × (bytes.now ≡ text_of s)) }
     // What has this text is read, unless memory runs out.
-    ensures only { (s : Scenario) → WellFormed s → bytes.now ≡ text_of s → MatchResult result (λ r. r ≡ s) (λ e. e ≡ TextError.Memory) }
+    ensures only { (s : Scenario) → WellFormed s → bytes.now ≡ text_of s
+        → MatchResult result (λ r. r ≡ s) (λ e. e ≡ TextError.Memory) }
     // The first bad line, and its fault.
-    ensures fault { MatchResult result (λ _. first_bad bytes.now ≡ None) (λ e. IsFault e (first_bad bytes.now)) }
+    ensures fault { MatchResult result (λ _. first_bad bytes.now ≡ None)
+        (λ e. IsFault e (first_bad bytes.now)) }
 {
     scenario(alloc, bytes)
 }

@@ -2,7 +2,7 @@ ghost use Rattle.std.specs.Prelude.{◌≡◌, ◌∷◌, [], map, IfOk};
 ghost use Rattle.std.specs.List.{flat_map};
 ghost use Rattle.line_text.specs.Lines.{line};
 ghost use Rattle.scenario_text.specs.Spelling.{WellFormed, text_of, line_text, head_lines, script_lines, address, max_count, kind_name, OneRegion, OneAsk, OneLook, OneSlot};
-ghost use Rattle.scenario_text.specs.InnerPrinting.{Adds, space_lines, table_lines};
+ghost use Rattle.scenario_text.specs.InnerPrinting.{Adds, AddsLines, space_lines, table_lines};
 
 use crate::scenario::{Ask, Look, Scenario, Script, Slot};
 use gpi_values::{gpi_name, source_name, space_name, world_name};
@@ -35,7 +35,7 @@ fn count_of_max(max: MaxBlock) -> u64
 
 /// Appends the lines on the format and the sizes of the space.
 fn space_lines(out: &mut String, setup: &Setup) -> Result<(), AllocError>
-    ensures { IfOk result (λ u. Adds out.old (flat_map line_text (space_lines setup.now)) out.new) }
+    ensures { IfOk result (λ u. AddsLines out.old (space_lines setup.now) out.new) }
 {
     let gigabytes = setup.gigabytes();
     let max = count_of_max(setup.max());
@@ -48,7 +48,7 @@ fn space_lines(out: &mut String, setup: &Setup) -> Result<(), AllocError>
 
 /// Appends the lines on the generations, the walks that are kept and the tables.
 fn table_lines(out: &mut String, setup: &Setup) -> Result<(), AllocError>
-    ensures { IfOk result (λ u. Adds out.old (flat_map line_text (table_lines setup.now)) out.new) }
+    ensures { IfOk result (λ u. AddsLines out.old (table_lines setup.now) out.new) }
 {
     let first = setup.first();
     let ring = setup.ring();
@@ -61,7 +61,7 @@ fn table_lines(out: &mut String, setup: &Setup) -> Result<(), AllocError>
 }
 
 fn head(out: &mut String, setup: &Setup) -> Result<(), AllocError>
-    ensures { IfOk result (λ u. Adds out.old (flat_map line_text (head_lines setup.now)) out.new) }
+    ensures { IfOk result (λ u. AddsLines out.old (head_lines setup.now) out.new) }
 {
     space_lines(out, setup)?;
     table_lines(out, setup)
@@ -78,7 +78,7 @@ fn region_line(out: &mut String, region: &Region) -> Result<(), AllocError>
 }
 
 fn region_lines(out: &mut String, regions: &[Region]) -> Result<(), AllocError>
-    ensures { IfOk result (λ u. Adds out.old (flat_map line_text (map OneRegion regions.now)) out.new) }
+    ensures { IfOk result (λ u. AddsLines out.old (map OneRegion regions.now) out.new) }
 {
     for region in regions {
         region_line(out, region)?;
@@ -99,13 +99,14 @@ fn ask_line(out: &mut String, ask: &Ask) -> Result<(), AllocError>
 
 /// Appends a line of a word, an address and a name.
 fn call_line(out: &mut String, word: &str, pa: u64, name: &str) -> Result<(), AllocError>
-    ensures { IfOk result (λ u. Adds out.old (line (word.now ∷ address pa ∷ name.now ∷ [])) out.new) }
+    ensures { IfOk result (λ u. Adds out.old
+        (line (word.now ∷ address pa ∷ name.now ∷ [])) out.new) }
 {
     write!(out, "{word} 0x{pa:x} {name}\n")
 }
 
 fn ask_lines(out: &mut String, asks: &[Ask]) -> Result<(), AllocError>
-    ensures { IfOk result (λ u. Adds out.old (flat_map line_text (map OneAsk asks.now)) out.new) }
+    ensures { IfOk result (λ u. AddsLines out.old (map OneAsk asks.now) out.new) }
 {
     for ask in asks {
         ask_line(out, ask)?;
@@ -114,7 +115,7 @@ fn ask_lines(out: &mut String, asks: &[Ask]) -> Result<(), AllocError>
 }
 
 fn look_lines(out: &mut String, looks: &[Look]) -> Result<(), AllocError>
-    ensures { IfOk result (λ u. Adds out.old (flat_map line_text (map OneLook looks.now)) out.new) }
+    ensures { IfOk result (λ u. AddsLines out.old (map OneLook looks.now) out.new) }
 {
     for look in looks {
         call_line(out, "look", look.pa, space_name(look.space))?;
@@ -123,7 +124,7 @@ fn look_lines(out: &mut String, looks: &[Look]) -> Result<(), AllocError>
 }
 
 fn section(out: &mut String, script: &Script) -> Result<(), AllocError>
-    ensures { IfOk result (λ u. Adds out.old (flat_map line_text (script_lines script.now)) out.new) }
+    ensures { IfOk result (λ u. AddsLines out.old (script_lines script.now) out.new) }
 {
     match script {
         Script::Agent(asks) => {
@@ -138,7 +139,7 @@ fn section(out: &mut String, script: &Script) -> Result<(), AllocError>
 }
 
 fn sections(out: &mut String, scripts: &[Script]) -> Result<(), AllocError>
-    ensures { IfOk result (λ u. Adds out.old (flat_map line_text (flat_map script_lines scripts.now)) out.new) }
+    ensures { IfOk result (λ u. AddsLines out.old (flat_map script_lines scripts.now) out.new) }
 {
     for script in scripts {
         section(out, script)?;
@@ -156,7 +157,7 @@ fn slot_line(out: &mut String, slot: Slot) -> Result<(), AllocError>
 }
 
 fn slot_lines(out: &mut String, schedule: &[Slot]) -> Result<(), AllocError>
-    ensures { IfOk result (λ u. Adds out.old (flat_map line_text (map OneSlot schedule.now)) out.new) }
+    ensures { IfOk result (λ u. AddsLines out.old (map OneSlot schedule.now) out.new) }
 {
     for slot in schedule {
         slot_line(out, *slot)?;

@@ -49,8 +49,9 @@ pub enum Slot {
     Round(u32, u32),
 }
 
-/// What is wrong with the first bad line of a text. The first that holds, in this order, is reported:
-/// `End`, `After`, `Word`, `Limit` of callers, `Fields`, `Number` or `Value`, `Limit` of turns.
+/// What is wrong with the first bad line of a text. The first that holds, in this order, is
+/// reported: `End`, `After`, `Word`, `Limit` of callers, `Fields`, `Number` or `Value`, `Limit` of
+/// turns.
 #[derive(Clone, Copy, Debug, PartialEq, Eq)]
 pub enum Fault {
     /// The first field isn't a word that may come here.

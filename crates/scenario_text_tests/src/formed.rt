@@ -5,7 +5,8 @@ use std::test::Fail;
 
 const LAST: u64 = 0xffff_ffff;
 
-/// Agents beside one processor, the last of its accesses to 4 GB, a schedule, and whether it is good.
+/// Agents beside one processor, the last of its accesses to 4 GB, a schedule, and whether it is
+/// good.
 const CASES: [(u64, u64, [Slot; 2], bool); 18] = [
     // Accesses are in the space.
     (1, LAST, [Slot::Turn(0, 1), Slot::Turn(1, 1)], true),

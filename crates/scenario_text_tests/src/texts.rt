@@ -32,8 +32,13 @@ round 2 3
 end
 ";
 
-const SMALL_READ: &str =
-    "Scenario { setup: Setup { gigabytes: 4, max: FiveTwelve, lock_blocks: 1, first: 7, ring: 8, tables: 3, base: 3221225472 }, regions: Listed { items: [Region { base: 0, size: 1073741824, kind: Granule, gpi: Secure }] }, scripts: Listed { items: [Agent(Listed { items: [Delegate(1073741824, Realm), Undelegate(1073745920, Secure), SmcDelegate(4096, NonSecure), SmcUndelegate(8192, Realm)] }), Cpu(Listed { items: [Look { pa: 4294967295, space: Root }] })] }, schedule: Listed { items: [Turn(0, 5), Round(2, 3)] } }";
+const SMALL_READ: &str = "\
+Scenario { setup: Setup { gigabytes: 4, max: FiveTwelve, lock_blocks: 1, first: 7, ring: 8, \
+tables: 3, base: 3221225472 }, regions: Listed { items: [Region { base: 0, size: 1073741824, \
+kind: Granule, gpi: Secure }] }, scripts: Listed { items: [Agent(Listed { items: \
+[Delegate(1073741824, Realm), Undelegate(1073745920, Secure), SmcDelegate(4096, NonSecure), \
+SmcUndelegate(8192, Realm)] }), Cpu(Listed { items: [Look { pa: 4294967295, space: Root }] })] \
+}, schedule: Listed { items: [Turn(0, 5), Round(2, 3)] } }";
 
 const WIDE: &str = "\
 gpt 1
@@ -59,8 +64,15 @@ round 3 2
 end
 ";
 
-const WIDE_READ: &str =
-    "Scenario { setup: Setup { gigabytes: 64, max: ThirtyTwo, lock_blocks: 8, first: 9223372036854775807, ring: 64, tables: 16, base: 18446744073709551615 }, regions: Listed { items: [Region { base: 0, size: 1073741824, kind: Block, gpi: NoAccess }, Region { base: 1073741824, size: 65536, kind: Granule, gpi: NonSecure }] }, scripts: Listed { items: [Cpu(Listed { items: [Look { pa: 68719476735, space: Realm }, Look { pa: 0, space: NonSecure }] }), Agent(Listed { items: [Delegate(0, Realm), Undelegate(11259375, Secure), SmcDelegate(65536, NonSecure), SmcUndelegate(18446744073709551615, Realm)] })] }, schedule: Listed { items: [Turn(1, 20), Round(3, 2)] } }";
+const WIDE_READ: &str = "\
+Scenario { setup: Setup { gigabytes: 64, max: ThirtyTwo, lock_blocks: 8, first: \
+9223372036854775807, ring: 64, tables: 16, base: 18446744073709551615 }, regions: Listed { \
+items: [Region { base: 0, size: 1073741824, kind: Block, gpi: NoAccess }, Region { base: \
+1073741824, size: 65536, kind: Granule, gpi: NonSecure }] }, scripts: Listed { items: \
+[Cpu(Listed { items: [Look { pa: 68719476735, space: Realm }, Look { pa: 0, space: NonSecure }] \
+}), Agent(Listed { items: [Delegate(0, Realm), Undelegate(11259375, Secure), SmcDelegate(65536, \
+NonSecure), SmcUndelegate(18446744073709551615, Realm)] })] }, schedule: Listed { items: \
+[Turn(1, 20), Round(3, 2)] } }";
 
 const BARE: &str = "\
 gpt 1
@@ -74,10 +86,13 @@ base 0x0
 end
 ";
 
-const BARE_READ: &str =
-    "Scenario { setup: Setup { gigabytes: 4, max: Zero, lock_blocks: 0, first: 0, ring: 1, tables: 0, base: 0 }, regions: Listed { items: [] }, scripts: Listed { items: [] }, schedule: Listed { items: [] } }";
+const BARE_READ: &str = "\
+Scenario { setup: Setup { gigabytes: 4, max: Zero, lock_blocks: 0, first: 0, ring: 1, tables: 0, \
+base: 0 }, regions: Listed { items: [] }, scripts: Listed { items: [] }, schedule: Listed { \
+items: [] } }";
 
-/// Two delegates, each between accesses to another granule of its block and to a granule of its own.
+/// Two delegates, each between accesses to another granule of its block and to a granule of its
+/// own.
 const DELEGATES_BETWEEN_LOOKS: &str = "\
 gpt 1
 space 4
@@ -104,8 +119,14 @@ turn 1 4
 end
 ";
 
-const DELEGATES_BETWEEN_LOOKS_READ: &str =
-    "Scenario { setup: Setup { gigabytes: 4, max: FiveTwelve, lock_blocks: 1, first: 0, ring: 8, tables: 1, base: 2147483648 }, regions: Listed { items: [Region { base: 0, size: 1073741824, kind: Granule, gpi: NonSecure }] }, scripts: Listed { items: [Agent(Listed { items: [Delegate(268435456, Realm), Delegate(270532608, Realm)] }), Cpu(Listed { items: [Look { pa: 0, space: NonSecure }, Look { pa: 0, space: NonSecure }, Look { pa: 268439552, space: NonSecure }, Look { pa: 268439552, space: NonSecure }] })] }, schedule: Listed { items: [Turn(1, 8), Turn(0, 8205), Turn(1, 18), Turn(0, 45), Turn(1, 4)] } }";
+const DELEGATES_BETWEEN_LOOKS_READ: &str = "\
+Scenario { setup: Setup { gigabytes: 4, max: FiveTwelve, lock_blocks: 1, first: 0, ring: 8, \
+tables: 1, base: 2147483648 }, regions: Listed { items: [Region { base: 0, size: 1073741824, \
+kind: Granule, gpi: NonSecure }] }, scripts: Listed { items: [Agent(Listed { items: \
+[Delegate(268435456, Realm), Delegate(270532608, Realm)] }), Cpu(Listed { items: [Look { pa: 0, \
+space: NonSecure }, Look { pa: 0, space: NonSecure }, Look { pa: 268439552, space: NonSecure }, \
+Look { pa: 268439552, space: NonSecure }] })] }, schedule: Listed { items: [Turn(1, 8), Turn(0, \
+8205), Turn(1, 18), Turn(0, 45), Turn(1, 4)] } }";
 
 /// What is read from a text, and how it is printed again.
 fn again(alloc: Global, text: &str) -> Result<(String, Vec<u8>), Fail> {
