@@ -36,7 +36,8 @@ usage = record { status = 2; text = usage_text }
 abbrev pub has_left : List Script → List (List Answer) → Bool
 has_left [] answers = false
 has_left (s ∷ scripts) [] = nat_lt 0 (calls_of s) || has_left scripts []
-has_left (s ∷ scripts) (own ∷ answers) = nat_lt (length own) (calls_of s) || has_left scripts answers
+has_left (s ∷ scripts) (own ∷ answers) =
+    nat_lt (length own) (calls_of s) || has_left scripts answers
 
 -- The report of what a run left, with status 6 exactly where a call has no answer.
 abbrev pub played_reply : Scenario → Outcome → Reply
@@ -55,7 +56,9 @@ accepted_reply command.Play s = played_reply s (outcome_of (played s))
 -- where no rule refuses its regions
 abbrev pub plan_reply : Command → Scenario → Reply
 plan_reply command s =
-    if is_bad_base s.setup s.regions then refused (base_text s.setup.base) else accepted_reply command s
+    if is_bad_base s.setup s.regions
+    then refused (base_text s.setup.base)
+    else accepted_reply command s
 
 abbrev pub planned_reply : Command → Scenario → Option PlanError → Reply
 planned_reply command s (Some e) = refused (plan_text e)
@@ -68,14 +71,20 @@ reply_of command s = planned_reply command s (refusal s.setup s.regions)
 
 -- ---- the reply to an input
 
+-- what the scenario of a text without a bad line gives
+abbrev pub RepliesToGood : Command → List ℕ → Reply → Type 0
+RepliesToGood command bytes reply =
+    (s : Scenario) × WellFormed s × (bytes ≡ text_of s) × (reply ≡ reply_of command s)
+    × Upholds command s
+
 -- The reply to a text: its first bad line, or what its scenario gives.
 abbrev pub RepliesToText : Command → List ℕ → Reply → Type 0
 RepliesToText command bytes reply =
-    MatchOption (first_bad bytes)
-    ((s : Scenario) × WellFormed s × (bytes ≡ text_of s) × (reply ≡ reply_of command s) × Upholds command s)
+    MatchOption (first_bad bytes) (RepliesToGood command bytes reply)
     (λ bad. reply ≡ refused (line_text bad.0 bad.1))
 
 -- The reply to the bytes that were read.
 abbrev pub Replies : Command → List ℕ → Reply → Type 0
 Replies command bytes reply =
-    MatchBool (nat_lt INPUT_LIMIT (length bytes)) (reply ≡ refused too_long_text) (RepliesToText command bytes reply)
+    MatchBool (nat_lt INPUT_LIMIT (length bytes)) (reply ≡ refused too_long_text)
+    (RepliesToText command bytes reply)

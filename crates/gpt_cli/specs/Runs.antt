@@ -14,8 +14,10 @@ IsCommandOf words command.Play = words ≡ codes "play" ∷ []
 abbrev pub IsCommand : List (List ℕ) → Type 0
 IsCommand words = (command : Command) × IsCommandOf words command
 
--- The reply was written whole, or a write failed, the status is 4 and a proper prefix of the text was written.
+-- The reply was written whole, or a write failed, the status is 4 and a proper prefix of the text
+-- was written.
 abbrev pub Delivers : Option (List ℕ) → Option (List ℕ) → ℕ → ℕ → Reply → ℕ → Type 0
 Delivers before after faults_before faults_after reply status =
     ((status ≡ reply.status) × Appends before after reply.text × (faults_after ≡ faults_before))
-    ⊎ ((status ≡ 4) × Rose faults_before faults_after × (n : ℕ) × (n < length reply.text) × Appends before after (take n reply.text))
+    ⊎ ((status ≡ 4) × Rose faults_before faults_after
+    × (n : ℕ) × (n < length reply.text) × Appends before after (take n reply.text))

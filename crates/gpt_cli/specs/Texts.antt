@@ -32,7 +32,8 @@ plan_text refused.TooMany = codes "plan: too many" ++ 10 ∷ []
 plan_text (refused.Unaligned i) = codes "plan: unaligned " ++ count i ++ 10 ∷ []
 plan_text (refused.Outside i) = codes "plan: outside " ++ count i ++ 10 ∷ []
 plan_text (refused.NotBlock i) = codes "plan: not block " ++ count i ++ 10 ∷ []
-plan_text (refused.Overlap i j) = codes "plan: overlap " ++ (count i ++ (codes " " ++ (count j ++ 10 ∷ [])))
+plan_text (refused.Overlap i j) =
+    codes "plan: overlap " ++ (count i ++ (codes " " ++ (count j ++ 10 ∷ [])))
 plan_text (refused.NoTables need) = codes "plan: tables " ++ count need ++ 10 ∷ []
 plan_text refused.Memory = []
 

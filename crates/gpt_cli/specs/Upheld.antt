@@ -10,8 +10,10 @@ use Rattle.core_machine.specs.InnerPlay.{played, outcome_of, played_trace}
 use Rattle.gpt_cli.specs.declared.command.Command.{Command}
 use Rattle.gpt_cli.specs.declared.command.Command.TheVariants as command
 
--- Of `tables`, that the printed tables mean the region map; of `play`, that the printed outcome is what a
--- trace of the schedule leaves, and is that of one legal history.
+-- Of `tables`, that the printed tables mean the region map; of `play`, that the printed outcome is
+-- what a trace of the schedule leaves, and is that of one legal history.
 abbrev pub Upholds : Command → Scenario → Type 0
-Upholds command.Tables s = IsAccepted s → TablesMean s.setup (region_l0 s.setup s.regions) (region_l1 s.setup s.regions) (region_map s.setup s.regions)
+Upholds command.Tables s = IsAccepted s
+    → TablesMean s.setup (region_l0 s.setup s.regions) (region_l1 s.setup s.regions)
+    (region_map s.setup s.regions)
 Upholds command.Play s = IsAccepted s → IsRun s (outcome_of (played s)) (played_trace s)

@@ -63,7 +63,8 @@ fn reply_of_play(alloc: Global, scenario: &Scenario, tables: Tables) -> Result<R
     requires wellformed { WellFormed scenario.now }
     requires accepted { IsAccepted scenario.now }
     requires built { tables ≡ tables_of scenario.now.setup scenario.now.regions }
-    ensures reply { IfOk result (λ reply. reply ≡ played_reply scenario.now (outcome_of (played scenario.now))) }
+    ensures reply { IfOk result
+        (λ reply. reply ≡ played_reply scenario.now (outcome_of (played scenario.now))) }
     ensures upholds { IfOk result (λ _. Upholds the_play scenario.now) }
 {
     let outcome = play(alloc, scenario, tables)?;

@@ -13,7 +13,8 @@ pub enum Command {
 
 /// The command that the words are, if they are one.
 pub fn command_of(words: &[&str]) -> Option<Command>
-    ensures { (command : TheCommand) → (result ≡ Some command) ↔ IsCommandOf (map (λ word. word.now) words.now) command }
+    ensures { (command : TheCommand)
+        → (result ≡ Some command) ↔ IsCommandOf (map (λ word. word.now) words.now) command }
 {
     match words {
         ["tables"] => Some(Command::Tables),

@@ -83,7 +83,8 @@ fn reply_to(alloc: Global, command: Command, bytes: &[u8]) -> Result<Reply, Allo
 
 /// Writes the text and answers the status, or 4 where a write fails.
 fn send<K: Sink>(sink: &mut K, status: u8, text: &[u8]) -> u8
-    ensures { Delivers (K.held sink.old) (K.held sink.new) (K.faults sink.old) (K.faults sink.new) (record { status = status; text = text.now }) result }
+    ensures { Delivers (K.held sink.old) (K.held sink.new) (K.faults sink.old) (K.faults sink.new)
+        (record { status = status; text = text.now }) result }
 {
     if deliver(sink, text) { status } else { 4 }
 }
@@ -92,7 +93,8 @@ fn send<K: Sink>(sink: &mut K, status: u8, text: &[u8]) -> u8
 /// returns. The answer is the exit status:
 ///
 /// - 0: the report was written.
-/// - 1: the input is too long, a line of it is bad, or its plan or base is refused; one line says so.
+/// - 1: the input is too long, a line of it is bad, or its plan or base is refused; one line says
+///   so.
 /// - 2: the words are no command; the usage line was written, and nothing was read.
 /// - 3: a read failed, and nothing was written.
 /// - 4: a write failed, and a proper prefix of the text was written.
@@ -101,25 +103,32 @@ fn send<K: Sink>(sink: &mut K, status: u8, text: &[u8]) -> u8
 pub fn still<S: Source, K: Sink>(alloc: Global, words: &[&str], source: &mut S, sink: &mut K) -> u8
     // Words that are no command read nothing.
     ensures usage { ¬ IsCommand (map (λ word. word.now) words.now)
-        → Delivers (K.held sink.old) (K.held sink.new) (K.faults sink.old) (K.faults sink.new) usage result }
+        → Delivers (K.held sink.old) (K.held sink.new)
+        (K.faults sink.old) (K.faults sink.new) usage result }
     ensures unread { ¬ IsCommand (map (λ word. word.now) words.now)
-        → Keeps (S.left source.old) (S.left source.new) × (S.faults source.new ≡ S.faults source.old) }
+        → Keeps (S.left source.old) (S.left source.new)
+        × (S.faults source.new ≡ S.faults source.old) }
 
-    // A command replies to the bytes that it takes, which are all that are left or one more than the limit.
-    ensures reply { (command : TheCommand) → IsCommandOf (map (λ word. word.now) words.now) command → result ≢ 3 → result ≢ 5
+    // A command replies to the bytes that it takes, which are all that are left or one more than
+    // the limit.
+    ensures reply { (command : TheCommand)
+        → IsCommandOf (map (λ word. word.now) words.now) command → result ≢ 3 → result ≢ 5
         → (bytes : List ℕ) × (reply : TheReply)
         × Consumes (S.left source.old) (S.left source.new) bytes
         × ((length bytes ≡ INPUT_LIMIT + 1) ⊎ IsAtEnd (S.left source.new))
         × (S.faults source.new ≡ S.faults source.old)
         × Replies command bytes reply
-        × Delivers (K.held sink.old) (K.held sink.new) (K.faults sink.old) (K.faults sink.new) reply result }
+        × Delivers (K.held sink.old) (K.held sink.new)
+        (K.faults sink.old) (K.faults sink.new) reply result }
 
     // Where it has no reply, nothing is written, and a failed read is reported as one.
     ensures read_fault { result ≡ 3 → Rose (S.faults source.old) (S.faults source.new) }
     ensures memory { result ≡ 5 → S.faults source.new ≡ S.faults source.old }
     ensures silent { (result ≡ 3) ⊎ (result ≡ 5)
-        → IsCommand (map (λ word. word.now) words.now) × Keeps (K.held sink.old) (K.held sink.new) × (K.faults sink.new ≡ K.faults sink.old) }
-    ensures limit { (bytes : List ℕ) × (length bytes ≤ INPUT_LIMIT + 1) × Consumes (S.left source.old) (S.left source.new) bytes }
+        → IsCommand (map (λ word. word.now) words.now)
+        × Keeps (K.held sink.old) (K.held sink.new) × (K.faults sink.new ≡ K.faults sink.old) }
+    ensures limit { (bytes : List ℕ) × (length bytes ≤ INPUT_LIMIT + 1)
+        × Consumes (S.left source.old) (S.left source.new) bytes }
     ensures limit_number { INPUT_LIMIT ≡ 1048576 }
 {
     let Some(command) = command_of(words) else {

@@ -17,7 +17,8 @@ region 0x0 0x40000000 granule nonsecure\nend\n";
 
 const BASE_LINE: &[u8] = b"base: 0x80010000\n";
 
-/// 4 GB, of which the first gigabyte is Secure, by granules, and an agent whose four calls are refused.
+/// 4 GB, of which the first gigabyte is Secure, by granules, and an agent whose four calls are
+/// refused.
 const REFUSED: &[u8] =
     b"gpt 1\nspace 4\nmax 0\nlocks 1\nfirst 0\nring 8\ntables 1\nbase 0x80000000\n\
 region 0x0 0x40000000 granule secure\nagent\ndelegate 0x200800 realm\ndelegate 0x40000000 realm\n\
