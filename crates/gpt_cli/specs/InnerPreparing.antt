@@ -35,8 +35,8 @@ pub record HasScenario (bytes : List ℕ) (s : Scenario) : Type 0 where
 
 -- ---- what refuses an input
 
--- The first rule that refuses an input: the limit, then the lines, the regions and the base. Want of
--- memory is no rule, and comes only within the limit.
+-- The first rule that refuses an input: the limit, then the lines, the regions and the base. Want
+-- of memory is no rule, and comes only within the limit.
 abbrev pub Refuses : List ℕ → Refusal → Type 0
 Refuses bytes cause.TooLong = INPUT_LIMIT < length bytes
 Refuses bytes (cause.Line n fault) =

@@ -16,8 +16,8 @@ IsCommandOf words command.Play = words ≡ codes "play" ∷ []
 abbrev pub IsCommand : List (List ℕ) → Type 0
 IsCommand words = (command : Command) × IsCommandOf words command
 
--- The reply was written whole, or a write failed, the exit status says so and a proper prefix of the
--- text was written.
+-- The reply was written whole, or a write failed, the exit status says so and a proper prefix of
+-- the text was written.
 abbrev pub Delivers : Option (List ℕ) → Option (List ℕ) → ℕ → ℕ → Reply → ℕ → Type 0
 Delivers before after faults_before faults_after reply code =
     ((code ≡ code_of reply.status) × Appends before after reply.text

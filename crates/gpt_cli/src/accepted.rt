@@ -70,7 +70,7 @@ fn reply_of_play(alloc: Global, prepared: Prepared) -> Result<Reply, AllocError>
     reply_of_outcome(alloc, &scenario, &outcome)
 }
 
-/// The reply of a command.
+/// What a command replies to an accepted scenario.
 pub fn reply_to_prepared(
     alloc: Global,
     command: Command,

@@ -15,8 +15,8 @@ pub struct Prepared {
     pub tables: Tables,
 }
 
-/// Holds an input against all rules: what was prepared of it, or the first rule that refuses it. The
-/// limit comes first, then the lines, the regions and the base.
+/// Holds an input against all rules: what was prepared of it, or the first rule that refuses it.
+/// The limit comes first, then the lines, the regions and the base.
 pub fn prepare(alloc: Global, bytes: &[u8]) -> Result<Prepared, Refusal>
     ensures prepared { IfOk result (λ prepared. IsPrepared prepared) }
     ensures scenario { IfOk result (λ prepared. HasScenario bytes.now prepared.scenario) }

@@ -6,7 +6,8 @@ ghost use Rattle.gpt_cli.specs.Statuses.{code_of};
 pub enum Status {
     /// The report was written, and no call is left.
     Done,
-    /// The input is too long, a line of it is bad, or its plan or base is refused; one line says so.
+    /// The input is too long, a line of it is bad, or its plan or base is refused; one line says
+    /// so.
     Refused,
     /// The words are no command; the usage line was written, and nothing was read.
     Usage,
