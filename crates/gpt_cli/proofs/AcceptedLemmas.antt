@@ -24,9 +24,6 @@ use Rattle.scenario_text.specs.declared.scenario.Scenario.{Scenario}
 use Rattle.scenario_text.specs.declared.scenario.Script.{Script}
 use Rattle.scenario_text.specs.Calls.{calls_of}
 use Rattle.report_text.proofs.CallerLemmas.{from_get_or}
-use Rattle.gpt_cli.specs.declared.command.Command.{Command}
-use Rattle.gpt_cli.specs.declared.command.Command.TheVariants as command
-use Rattle.gpt_cli.specs.Upheld.{Upholds}
 use Rattle.gpt_cli.specs.Replies.{has_left}
 use Rattle.core_machine.specs.Scenarios.{IsAccepted}
 
@@ -84,16 +81,13 @@ built_canonical s regions accepted good = λ w i at.
     get_or_from_slice_get (region_l1 s regions) i _ 0 word ∙ ap (canonical_word s (region_map s regions) None) same
 
 -- the canonical tables of accepted regions mean their map
-tables_mean : (s : Scenario) → IsAccepted s
+pub tables_mean : (s : Scenario) → IsAccepted s
     → TablesMean s.setup (region_l0 s.setup s.regions) (region_l1 s.setup s.regions) (region_map s.setup s.regions)
 tables_mean s accepted =
     canonical_mean s.setup (region_l0 s.setup s.regions) (region_l1 s.setup s.regions) (region_map s.setup s.regions) (λ w. None)
     (tables_fit s.setup s.regions accepted.based accepted.planned).words
     (λ granule within at. built_block s.setup s.regions granule accepted.planned accepted.based within at)
     (built_canonical s.setup s.regions accepted.planned accepted.based)
-
-pub tables_upheld : (k : Command) (s : Scenario) → k ≡ command.Tables → Upholds k s
-tables_upheld k s is = subst (λ (x : Command). Upholds x s) (sym is) (tables_mean s)
 
 -- what holds whatever was allocated
 pub with_any : {A E : Type 0} {P : Type 0} (r : Result A E) → P → IfOk r (λ _. P)

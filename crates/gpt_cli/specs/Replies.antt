@@ -18,17 +18,18 @@ use Rattle.gpt_stream.specs.declared.input.TheConstants.{INPUT_LIMIT}
 use Rattle.gpt_cli.specs.declared.command.Command.{Command}
 use Rattle.gpt_cli.specs.declared.command.Command.TheVariants as command
 use Rattle.gpt_cli.specs.declared.reply.Reply.{Reply}
+use Rattle.gpt_cli.specs.declared.status.Status.TheVariants as status
 use Rattle.gpt_cli.specs.Upheld.{Upholds}
 use Rattle.gpt_cli.specs.Texts.{usage_text, too_long_text, line_text, plan_text, base_text}
 
 abbrev pub done : List ℕ → Reply
-done text = record { status = 0; text = text }
+done text = record { status = status.Done; text = text }
 
 abbrev pub refused : List ℕ → Reply
-refused text = record { status = 1; text = text }
+refused text = record { status = status.Refused; text = text }
 
 abbrev pub usage : Reply
-usage = record { status = 2; text = usage_text }
+usage = record { status = status.Usage; text = usage_text }
 
 -- ---- the report of a run
 
@@ -39,10 +40,10 @@ has_left (s ∷ scripts) [] = nat_lt 0 (calls_of s) || has_left scripts []
 has_left (s ∷ scripts) (own ∷ answers) =
     nat_lt (length own) (calls_of s) || has_left scripts answers
 
--- The report of what a run left, with status 6 exactly where a call has no answer.
+-- The report of what a run left, with status `Left` exactly where a call has no answer.
 abbrev pub played_reply : Scenario → Outcome → Reply
 played_reply s o = record {
-  status = if has_left s.scripts o.answers then 6 else 0;
+  status = if has_left s.scripts o.answers then status.Left else status.Done;
   text = report_of_run mode.Play s o;
 }
 

@@ -1,5 +1,4 @@
 -- What a command upholds of an accepted scenario, besides the text that it writes.
-use Rattle.std.specs.Prelude.{ℕ}
 use Rattle.region_plan.specs.Regions.{region_map, region_l0}
 use Rattle.table_build.specs.Built.{region_l1}
 use Rattle.table_meaning.specs.Meaning.{TablesMean}

@@ -3,22 +3,22 @@
 
 mod accepted;
 mod command;
+mod prepare;
 mod program;
 mod refusal;
 mod reply;
+mod status;
 #[cfg(test)]
 mod tests;
 
 use gpt_io::{StdSink, StdSource};
 pub use program::still;
 pub use reply::Reply;
+pub use status::Status;
 use std::alloc::{AllocError, Global};
 use std::env;
 use std::io::ErrorKind;
 use std::process::ExitCode;
-
-/// The status where memory runs out.
-const NO_MEMORY: u8 = 5;
 
 /// The words after the program's name. A word that isn't UTF-8 counts as no words at all.
 fn words(rt: &HostRuntime, alloc: Global) -> Result<Vec<String>, AllocError> {
@@ -43,5 +43,5 @@ fn run(rt: &HostRuntime, alloc: Global) -> Result<u8, AllocError> {
 
 fn main(rt: HostRuntime) -> ExitCode {
     let alloc = rt.alloc();
-    ExitCode::from(run(&rt, alloc).unwrap_or(NO_MEMORY))
+    ExitCode::from(run(&rt, alloc).unwrap_or(Status::NoMemory.code()))
 }

@@ -1,20 +1,62 @@
-ghost use Rattle.std.specs.Prelude.{◌≡◌, IfOk, string_bytes};
-ghost use Rattle.gpt_cli.specs.Texts.{fault_name, too_long_text, line_text, plan_text, base_text};
+ghost use Rattle.std.specs.Prelude.{◌≡◌, ◌≢◌, IfOk, OnOk, string_bytes};
+ghost use Rattle.gpt_cli.specs.Texts.{fault_name, line_text, plan_text};
 ghost use Rattle.gpt_cli.specs.Replies.{refused};
+ghost use Rattle.gpt_cli.specs.InnerPreparing.{refusal_line, of_text_error, of_plan_error, of_build_error};
+ghost use Rattle.gpt_cli.specs.declared.refusal.Refusal.TheVariants as cause;
 
 use crate::reply::Reply;
+use crate::status::Status;
 use gpi_values::Listed;
 use region_plan::PlanError;
-use scenario_text::Fault;
+use scenario_text::{Fault, TextError};
 use std::alloc::{AllocError, Global};
+use table_build::BuildError;
 
-/// Status 1 with this line.
-fn refused(line: String) -> Reply
-    ensures { result ≡ refused (string_bytes line) }
-{
-    Reply {
-        status: 1,
-        text: Listed::new(line.into_bytes()),
+/// Why an input is refused: the first rule that it breaks.
+#[derive(Clone, Copy, Debug, PartialEq, Eq)]
+pub enum Refusal {
+    /// It is longer than the limit.
+    TooLong,
+    /// Its first bad line, counted from 1, and the fault of that line.
+    Line(u64, Fault),
+    /// The first rule that its regions break.
+    Plan(PlanError),
+    /// The tables can't stand at this base.
+    Base(u64),
+    /// No rule: memory ran out.
+    Memory,
+}
+
+impl From<TextError> for Refusal {
+    ghost from_gives = { λ error refusal. refusal ≡ of_text_error error };
+
+    fn from(error: TextError) -> Refusal {
+        match error {
+            TextError::Line(line, fault) => Refusal::Line(line, fault),
+            TextError::Memory => Refusal::Memory,
+        }
+    }
+}
+
+impl From<PlanError> for Refusal {
+    ghost from_gives = { λ error refusal. refusal ≡ of_plan_error error };
+
+    fn from(error: PlanError) -> Refusal {
+        match error {
+            PlanError::Memory => Refusal::Memory,
+            rule => Refusal::Plan(rule),
+        }
+    }
+}
+
+impl From<BuildError> for Refusal {
+    ghost from_gives = { λ error refusal. refusal ≡ of_build_error error };
+
+    fn from(error: BuildError) -> Refusal {
+        match error {
+            BuildError::BadBase(base) => Refusal::Base(base),
+            BuildError::Memory => Refusal::Memory,
+        }
     }
 }
 
@@ -32,19 +74,13 @@ fn name_of_fault(fault: Fault) -> &'static str
     }
 }
 
-/// The reply to an input that is longer than the limit.
-pub fn too_long(alloc: Global) -> Result<Reply, AllocError>
-    ensures { IfOk result (λ reply. reply ≡ refused too_long_text) }
-{
-    Ok(refused(String::from_str(alloc, "too long\n")?))
-}
-
-/// The reply to a text whose first bad line is `line`, counted from 1.
-pub fn bad_line(alloc: Global, line: u64, fault: Fault) -> Result<Reply, AllocError>
-    ensures { IfOk result (λ reply. reply ≡ refused (line_text line fault)) }
+/// The line of a text whose first bad line is `line`.
+fn fault_line(alloc: Global, line: u64, fault: Fault) -> Result<String, AllocError>
+    ensures { IfOk result (λ text. string_bytes text ≡ line_text line fault) }
 {
     let name = name_of_fault(fault);
-    Ok(refused(format!(in alloc; "line {line}: {name}\n")?))
+    let text = format!(in alloc; "line {line}: {name}\n")?;
+    Ok(text)
 }
 
 /// The line of regions that a rule refuses.
@@ -63,16 +99,28 @@ fn plan_line(alloc: Global, error: PlanError) -> Result<String, AllocError>
     }
 }
 
-/// The reply to regions that a rule refuses.
-pub fn bad_plan(alloc: Global, error: PlanError) -> Result<Reply, AllocError>
-    ensures { IfOk result (λ reply. reply ≡ refused (plan_text error)) }
+/// The line that says why an input is refused. Want of memory has none.
+fn refusal_line(alloc: Global, refusal: Refusal) -> Result<String, AllocError>
+    ensures line { IfOk result (λ line. string_bytes line ≡ refusal_line refusal) }
+    ensures rule { OnOk result (refusal ≢ cause.Memory) }
 {
-    Ok(refused(plan_line(alloc, error)?))
+    match refusal {
+        Refusal::TooLong => String::from_str(alloc, "too long\n"),
+        Refusal::Line(line, fault) => fault_line(alloc, line, fault),
+        Refusal::Plan(error) => plan_line(alloc, error),
+        Refusal::Base(base) => format!(in alloc; "base: 0x{base:x}\n"),
+        Refusal::Memory => Err(AllocError),
+    }
 }
 
-/// The reply to a base at which the tables can't stand.
-pub fn bad_base(alloc: Global, base: u64) -> Result<Reply, AllocError>
-    ensures { IfOk result (λ reply. reply ≡ refused (base_text base)) }
+/// The reply to a refused input: one line that says why. Want of memory has none.
+pub fn refusal_text(alloc: Global, refusal: &Refusal) -> Result<Reply, AllocError>
+    ensures reply { IfOk result (λ reply. reply ≡ refused (refusal_line refusal.now)) }
+    ensures rule { OnOk result (refusal.now ≢ cause.Memory) }
 {
-    Ok(refused(format!(in alloc; "base: 0x{base:x}\n")?))
+    let line = refusal_line(alloc, *refusal)?;
+    Ok(Reply {
+        status: Status::Refused,
+        text: Listed::new(line.into_bytes()),
+    })
 }

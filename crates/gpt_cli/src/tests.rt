@@ -17,6 +17,16 @@ region 0x0 0x40000000 granule nonsecure\nend\n";
 
 const BASE_LINE: &[u8] = b"base: 0x80010000\n";
 
+/// The same with a region that begins in the middle of a granule, too.
+const BAD_PLAN: &[u8] =
+    b"gpt 1\nspace 4\nmax 512\nlocks 1\nfirst 0\nring 8\ntables 1\nbase 0x80010000\n\
+region 0x800 0x40000000 granule nonsecure\nend\n";
+
+/// The same with a ring of no entries, too.
+const BAD_LINE: &[u8] =
+    b"gpt 1\nspace 4\nmax 512\nlocks 1\nfirst 0\nring 0\ntables 1\nbase 0x80010000\n\
+region 0x800 0x40000000 granule nonsecure\nend\n";
+
 /// 4 GB, of which the first gigabyte is Secure, by granules, and an agent whose four calls are
 /// refused.
 const REFUSED: &[u8] =
@@ -156,6 +166,23 @@ fn words_that_are_no_command_read_nothing(rt: HostRuntime) -> Result<(), Fail> {
         assert_eq!(rt; status(alloc, words, &mut source, &mut failing), 4);
         assert!(rt; failing.taken().is_empty());
         assert_eq!(rt; source.reads(), 0);
+    }
+    Ok(())
+}
+
+#[test]
+fn the_first_rule_that_refuses_is_named(rt: HostRuntime) -> Result<(), Fail> {
+    let alloc = rt.alloc();
+    let table = [
+        (BAD_LINE, "line 6: value\n"),
+        (BAD_PLAN, "plan: unaligned 0\n"),
+        (BAD_BASE, "base: 0x80010000\n"),
+    ];
+    for (input, line) in table {
+        let mut source = source(alloc, input, 0)?;
+        let mut sink = sink(alloc, 20, 0)?;
+        assert_eq!(rt; status(alloc, &["play"], &mut source, &mut sink), 1);
+        assert_eq!(rt; sink.taken(), line.as_bytes());
     }
     Ok(())
 }

@@ -7,15 +7,12 @@ use Rattle.gpt_cli.specs.Replies.{played_reply}
 use Rattle.gpt_cli.proofs.AcceptedLemmas.{with_any}
 use Rattle.gpt_cli.proofs.accepted.reply_of_play.Goals as goal
 
-pub reply_of_outcome-requires : goal.reply_of_outcome-requires
-reply_of_outcome-requires c =
-    record { answers = c.in_ok-outcome.ensures.answered; words = c.in_ok-outcome.ensures.size }
-
 pub returns-clause-reply : goal.returns-clause-reply
 returns-clause-reply c =
-    subst (λ (o : Outcome). IfOk c.reply_of_outcome.result (λ reply. reply ≡ played_reply c.args.scenario.now o))
-    c.in_ok-outcome.ensures.trace c.reply_of_outcome.ensures
+    let s = c.args.prepared.scenario in
+    subst (λ (o : Outcome). IfOk c.reply_of_outcome.result (λ reply. reply ≡ played_reply s o)) c.in_ok-outcome.ensures.trace c.reply_of_outcome.ensures
 
 pub returns-clause-upholds : goal.returns-clause-upholds
 returns-clause-upholds c =
-    with_any c.reply_of_outcome.result (λ accepted. subst (λ (o : Outcome). IsRun c.args.scenario.now o (played_trace c.args.scenario.now)) c.in_ok-outcome.ensures.trace c.in_ok-outcome.ensures.run)
+    let s = c.args.prepared.scenario in
+    with_any c.reply_of_outcome.result (λ accepted. subst (λ (o : Outcome). IsRun s o (played_trace s)) c.in_ok-outcome.ensures.trace c.in_ok-outcome.ensures.run)

@@ -1,12 +1,14 @@
-use Rattle.std.proofs.Common.{arith}
-use Rattle.gpt_cli.proofs.ReplyLemmas.{replies_scenario, replies_status}
+use Rattle.gpt_cli.proofs.ReplyLemmas.{replies_prepared, replies_refused, prepared_status}
 use Rattle.gpt_cli.proofs.program.reply_to.Goals as goal
 
-pub returns-in_ok-reply-in-Ok-clause-replies : goal.returns-in_ok-reply-in-Ok-clause-replies
-returns-in_ok-reply-in-Ok-clause-replies c =
-    replies_scenario c.args.command c.args.bytes.now c.in-Ok.scenario c.in_ok-reply-in-Ok.reply (omega arith) c.in-Ok.ensures.fault
-    c.in-Ok.ensures.text.0 c.in-Ok.ensures.text.1 c.in_ok-reply-in-Ok.ensures.reply c.in_ok-reply-in-Ok.ensures.upholds
+pub returns-in-Ok-clause-replies : goal.returns-in-Ok-clause-replies
+returns-in-Ok-clause-replies c =
+    replies_prepared c.args.command c.args.bytes.now c.in-Ok.prepared.scenario c.reply_to_prepared.result c.in-Ok.ensures.scenario c.in-Ok.ensures.prepared.accepted
+    c.reply_to_prepared.ensures.reply c.reply_to_prepared.ensures.upholds
 
-pub returns-in_ok-reply-in-Ok-clause-status : goal.returns-in_ok-reply-in-Ok-clause-status
-returns-in_ok-reply-in-Ok-clause-status c =
-    replies_status c.args.command c.args.bytes.now c.in_ok-reply-in-Ok.reply (returns-in_ok-reply-in-Ok-clause-replies c)
+pub returns-in-Ok-clause-status : goal.returns-in-Ok-clause-status
+returns-in-Ok-clause-status c = prepared_status c.args.command c.in-Ok.prepared.scenario c.reply_to_prepared.result c.reply_to_prepared.ensures.reply
+
+pub returns-in-Err-clause-replies : goal.returns-in-Err-clause-replies
+returns-in-Err-clause-replies c =
+    replies_refused c.args.command c.args.bytes.now c.in-Err.refusal c.refusal_text.result c.in-Err.ensures.refused c.refusal_text.ensures.reply c.refusal_text.ensures.rule
