@@ -33,7 +33,12 @@ impl Model for Transition {
 
     ghost Value = { TransitionData };
 
-    ghost view = { λ d. record { task = d.task; places = d.places; stage = d.stage; waited = d.waited } };
+    ghost view = { λ d. record {
+      task = d.task;
+      places = d.places;
+      stage = d.stage;
+      waited = d.waited;
+    } };
 
     ghost inverse = { λ d. record {
       task = d.task;
@@ -212,9 +217,9 @@ impl Transition {
         matches!(self.stage, Stage::Locking) && !was_free(self.places.lock, old)
     }
 
-    /// Takes note that the next act was made and answered `old`. The answer is there exactly where that
-    /// act released the lock: then the call has ended, and the transition is as it was. The geometry is
-    /// that for which it was made.
+    /// Takes note that the next act was made and answered `old`. The answer is there exactly where
+    /// that act released the lock: then the call has ended, and the transition is as it was. The
+    /// geometry is that for which it was made.
     pub fn took(&mut self, geometry: &Geometry, old: u64) -> Option<Answer>
         requires transition { IsTransition geometry.now self.old }
         requires readable { IsReadable self.old.stage old }
