@@ -159,18 +159,18 @@ impl Transition {
         ensures { result ≡ next_by self.now }
     {
         let places = &self.places;
-        match self.stage {
+        match &self.stage {
             Stage::Locking => Some(take(places.lock)),
             Stage::Looking => Some(Act::Load(places.word)),
-            Stage::Reading(size, _) => Some(Act::Load(places.generation(size))),
+            Stage::Reading(size, _) => Some(Act::Load(places.generation(*size))),
             Stage::Splitting(_, splitting, _) => splitting.next(),
             Stage::Changing(change, kept) => {
-                let word = changed_word(self.task, change, places.field, kept.word);
+                let word = changed_word(self.task, *change, places.field, kept.word);
                 Some(Act::Store(places.word, word))
             }
             Stage::Raising(_, size, kept) => {
-                let raised = kept.generations.get(size) + 1;
-                Some(Act::Store(places.generation(size), raised))
+                let raised = kept.generations.get(*size) + 1;
+                Some(Act::Store(places.generation(*size), raised))
             }
             Stage::Merging(fuse, _) => fuse.next(),
             Stage::Releasing(_) => Some(drop_act(places.lock)),
@@ -183,30 +183,38 @@ impl Transition {
         requires readable { IsReadable self.now.stage old }
         ensures { result ≡ stage_after geometry.now self.now.task self.now.stage old }
     {
-        match self.stage {
+        match &self.stage {
             Stage::Locking => Stage::Looking,
             Stage::Looking => looked_stage(self.task, self.places.field, old),
             Stage::Reading(size, kept) => {
-                read_stage(geometry, self.task, size, kept.with(size, old))
+                read_stage(geometry, self.task, *size, kept.with(*size, old))
             }
-            Stage::Splitting(size, mut splitting, generations) => {
+            Stage::Splitting(size, splitting, generations) => {
+                let mut splitting = *splitting;
                 splitting.advance();
-                split_stage(self.task, size, splitting, generations)
+                split_stage(self.task, *size, splitting, *generations)
             }
             Stage::Changing(change, kept) => {
-                let word = changed_word(self.task, change, self.places.field, kept.word);
+                let word = changed_word(self.task, *change, self.places.field, kept.word);
                 let generations = kept.generations;
-                Stage::Raising(change, Size::Two, Kept { word, generations })
+                Stage::Raising(*change, Size::Two, Kept { word, generations })
             }
             Stage::Raising(change, size, kept) => {
-                let raised = kept.generations.get(size) + 1;
-                raised_stage(geometry, self.task, change, size, kept.with(size, raised))
+                let raised = kept.generations.get(*size) + 1;
+                raised_stage(
+                    geometry,
+                    self.task,
+                    *change,
+                    *size,
+                    kept.with(*size, raised),
+                )
             }
-            Stage::Merging(mut fuse, generations) => {
+            Stage::Merging(fuse, generations) => {
+                let mut fuse = *fuse;
                 fuse.took(old);
-                merged_stage(fuse, generations)
+                merged_stage(fuse, *generations)
             }
-            Stage::Releasing(answer) => Stage::Releasing(answer),
+            Stage::Releasing(answer) => Stage::Releasing(*answer),
         }
     }
 
@@ -227,8 +235,8 @@ impl Transition {
         ensures after { self.new ≡ after_by geometry.now self.old old }
         ensures transition { IsTransition geometry.now self.new }
     {
-        if let Stage::Releasing(answer) = self.stage {
-            return Some(answer);
+        if let Stage::Releasing(answer) = &self.stage {
+            return Some(*answer);
         }
         self.waited = self.is_held(old);
         if !self.waited {
