@@ -1,4 +1,4 @@
-ghost use Rattle.std.specs.Prelude.{◌≡◌, ◌-◌, ◌≤◌, ◌++◌, IfOk, IfSome, IsSome, is_some, not, None, length, drop, false, slice_get, vec_capacity};
+ghost use Rattle.std.specs.Prelude.{◌≡◌, ◌-◌, ◌≤◌, ◌++◌, IfOk, IfSome, IsSome, IsTrue, is_some, not, None, length, drop, false, slice_get, vec_capacity};
 ghost use Rattle.std.specs.List.{All};
 ghost use Rattle.std.specs.Option.{option_map};
 ghost use Rattle.delegate_ops.specs.InnerAgents.{is_look, task_of, fresh, idle_answers, has_ended, next_of, after_answer, took_of, HasActs, IsReadable};
@@ -168,6 +168,9 @@ impl Agent {
     pub fn may_take(&self, old: u64) -> bool
         ensures { IsTrue result → IsReadable self.now.stage old }
     {
-        !matches!(self.stage, Stage::Looking) || gpt_descriptors::decode_l1(old).is_some()
+        match &self.transition {
+            Some(transition) => transition.may_take(old),
+            None => true,
+        }
     }
 }

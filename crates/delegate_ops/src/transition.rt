@@ -252,3 +252,13 @@ impl Transition {
         self.waited
     }
 }
+
+#[cfg(test)]
+impl Transition {
+    /// Whether the next act may answer `old`: one that looks at an L1 word answers a descriptor.
+    pub fn may_take(&self, old: u64) -> bool
+        ensures { IsTrue result → IsReadable self.now.stage old }
+    {
+        !matches!(self.stage, Stage::Looking) || decode_l1(old).is_some()
+    }
+}
