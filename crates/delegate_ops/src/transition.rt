@@ -201,13 +201,8 @@ impl Transition {
             }
             Stage::Raising(change, size, kept) => {
                 let raised = kept.generations.get(*size) + 1;
-                raised_stage(
-                    geometry,
-                    self.task,
-                    *change,
-                    *size,
-                    kept.with(*size, raised),
-                )
+                let kept = kept.with(*size, raised);
+                raised_stage(geometry, self.task, *change, *size, kept)
             }
             Stage::Merging(fuse, generations) => {
                 let mut fuse = *fuse;
