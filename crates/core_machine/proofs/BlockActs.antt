@@ -1,5 +1,5 @@
 -- The stores of splitting, and the loads and stores of merging.
-use Rattle.std.proofs.Common.{◌≡◌, ◌≢◌, ℕ, zero, suc, ◌+◌, ◌-◌, ◌*◌, ◌/◌, ◌%◌, ◌<◌, ◌≤◌, ◌∷◌, [], List, true, false, ltb, Option, Some, None, length, set, refl, sym, ap, ◌∙◌, subst, arith, inl, inr}
+use Rattle.std.proofs.Common.{◌≡◌, ℕ, zero, suc, ◌+◌, ◌*◌, ◌/◌, ◌%◌, ◌<◌, ◌∷◌, [], List, false, ltb, Option, Some, None, length, set, refl, sym, ap, ◌∙◌, subst, arith, inl, inr}
 use Rattle.std.specs.Prelude.{slice_get, slice_index}
 use Rattle.std.proofs.lemmas.Bool.{cases_Bool, ltb-true, ltb-false}
 use Rattle.std.proofs.lemmas.Nat.{div-add-mod', mod_below}
@@ -12,9 +12,9 @@ use Rattle.gpt_descriptors.specs.declared.size.MaxBlock.{MaxBlock}
 use Rattle.gpt_descriptors.specs.Sizes.{SetupData, words_of, size_bytes}
 use Rattle.gpt_descriptors.specs.Entries.{l1_word}
 use Rattle.gpt_descriptors.specs.Fields.{granules_of}
-use Rattle.gpt_descriptors.specs.Canonical.{canonical_word, largest_block}
+use Rattle.gpt_descriptors.specs.Canonical.{canonical_word}
 use Rattle.gpt_descriptors.specs.Level0.{l1_index}
-use Rattle.gpt_descriptors.specs.Places.{GeometryData, WordName, Level1, place_of, l0_words, l1_words, l1_index_of, l1_place_of}
+use Rattle.gpt_descriptors.specs.Places.{GeometryData, WordName, Level1, place_of, l0_words, l1_words, l1_index_of}
 use Rattle.gpt_descriptors.proofs.PlaceLemmas.{place_below, generation_named}
 use Rattle.gpt_descriptors.proofs.CanonicalLemmas.{words_some}
 use Rattle.shared_words.specs.declared.act.Act.{Act}
@@ -23,8 +23,8 @@ use Rattle.table_meaning.specs.declared.fusing.Fusing.{Fusing}
 use Rattle.table_meaning.specs.declared.fusing.Fusing.TheVariants.{Testing, Storing, Ended}
 use Rattle.table_meaning.specs.Splitting.{block_start, split_around}
 use Rattle.table_meaning.specs.Fusing.{block_words, loads_of, load_at, store_at, loaded, stored}
-use Rattle.table_meaning.specs.Equation.{Holder, Step, Splitting, Apart, Merging, apart_by, AreWords}
-use Rattle.table_meaning.specs.Facts.{Facts, Keeps, Splits, Merges, step_of, merging_step}
+use Rattle.table_meaning.specs.Equation.{Holder, Step, Splitting, Apart, apart_by, AreWords}
+use Rattle.table_meaning.specs.Facts.{Facts, Keeps, Merges, step_of, merging_step}
 use Rattle.table_meaning.proofs.PlaceLemmas.{block_index, load_index, store_index, own_rest}
 use Rattle.table_meaning.proofs.EquationLemmas.{holder_set_same, alone_stays}
 use Rattle.table_meaning.proofs.FusingLemmas.{block_words_is}
@@ -36,19 +36,17 @@ use Rattle.fuse.specs.Merging.{FuseData}
 use Rattle.fuse.specs.Merging as fuse
 use Rattle.history.specs.declared.call.Task.{Task}
 use Rattle.history.specs.declared.call.Answer.TheVariants as answer
-use Rattle.history.specs.Legality.{needed}
 use Rattle.delegate_ops.specs.declared.stage.Kept.{Kept}
 use Rattle.delegate_ops.specs.declared.stage.Stage.{Stage}
 use Rattle.delegate_ops.specs.declared.stage.Stage.TheVariants as stage
-use Rattle.delegate_ops.specs.Deciding.{address_of, granule_place}
-use Rattle.delegate_ops.specs.Changing.{first_change, from_of, word_in_block}
+use Rattle.delegate_ops.specs.Deciding.{address_of}
+use Rattle.delegate_ops.specs.Changing.{first_change, word_in_block}
 use Rattle.delegate_ops.specs.Script.{granule_of_task}
-use Rattle.delegate_ops.specs.InnerEntries.{entries_at}
 use Rattle.delegate_ops.specs.InnerAgents.{AgentData, IsStage, IsSplittingOf, IsMergingOf, goes_to, split_stage, merging_stage, merged_stage}
 use Rattle.delegate_ops.proofs.AgentLemmas.{at_stage}
 use Rattle.core_machine.specs.declared.caller.Caller.TheVariants as caller
-use Rattle.core_machine.specs.InnerTables.{known_at, AreTables}
-use Rattle.core_machine.specs.InnerSeen.{SeesGeneration, SeesSplit, SeesAll, SeesAt}
+use Rattle.core_machine.specs.InnerTables.{known_at}
+use Rattle.core_machine.specs.InnerSeen.{SeesGeneration, SeesSplit, SeesAt}
 use Rattle.core_machine.specs.InnerCounted.{coming_at}
 use Rattle.core_machine.specs.InnerInvariant.{IsMade}
 use Rattle.core_machine.specs.InnerScene.{Scene, HoldsIn, scene_after}
@@ -155,11 +153,12 @@ split_keeps {s = s} {c = c} {a = a} {t = t} z d k next acting there =
     let word : split_word d.two d.own d.gpi d.made ≡ split_around g.setup w d.gpi (block_start g.setup z w + d.made) =
     rw (is.two, is.own, ← row) (split_same g.setup z w d.made d.gpi low) in
     let store : store_of d d.made ≡ next = let both : Some (store_of d d.made) ≡ Some next = rw is.low at there in cc in
-    subst (ActKeeps s c a t (stage.Splitting z d k)) store
-    (tt,
-    subst (λ (p : ℕ). HoldsIn g (scene_after s c (caller.Agent (goes_to (at_stage a (stage.Splitting z d k)) (split_stage t z (advanced d) k))) (set s.words p (split_word d.two d.own d.gpi d.made)) [])) (sym place)
-    (subst (λ (v : ℕ). HoldsIn g (scene_after s c (caller.Agent (goes_to (at_stage a (stage.Splitting z d k)) (split_stage t z (advanced d) k))) (set s.words (place_of g (Level1 (at.0 / n * n + d.made))) v) [])) (sym word)
-    (split_holds z d k at.0 acting low is.words at.1)))
+    subst (ActKeeps s c a t (stage.Splitting z d k)) store (
+      tt,
+      subst (λ (p : ℕ). HoldsIn g (scene_after s c (caller.Agent (goes_to (at_stage a (stage.Splitting z d k)) (split_stage t z (advanced d) k))) (set s.words p (split_word d.two d.own d.gpi d.made)) [])) (sym place)
+          (subst (λ (v : ℕ). HoldsIn g (scene_after s c (caller.Agent (goes_to (at_stage a (stage.Splitting z d k)) (split_stage t z (advanced d) k))) (set s.words (place_of g (Level1 (at.0 / n * n + d.made))) v) [])) (sym word)
+          (split_holds z d k at.0 acting low is.words at.1)),
+    )
 
 -- ---- merging
 
@@ -234,12 +233,13 @@ merge_by {s = s} {c = c} {a = a} {t = t} first own two max v (Storing z j) k nex
     let after : Facts g.setup (map_in s) granule (Merges v (stored two z j)) = rw is.two (stores g.setup (map_in s) granule v z j low known) in
     let are = merge_store g (map_in s) (holders_of s.callers) c granule z j i v s.words (holder_at acting) (alone_there acting refl) known.1.0 (own_gpi g.setup (map_in s) granule v known.0) low index fits acting.stands.tables.level1 in
     let store : act.Store (first + store_at two own z j) word ≡ next = cc in
-    subst (ActKeeps s c a t (stage.Merging f k)) store
-    (tt,
-    subst (λ (p : ℕ). HoldsIn g (scene_after s c (caller.Agent (goes_to (at_stage a (stage.Merging f k)) (merged_stage (fuse.took_of f 0) k))) (set s.words p word) [])) (sym place)
-    (merged_holds acting (fuse.took_of f 0) (Some (Level1 i)) (set s.words (place_of g (Level1 i)) word) (writes_one g s.words (Level1 i) word within) tt refl refl refl (acting.made 0)
-    (subst (λ (n : ℕ). AreWords g (map_in s) (apart_by g.setup (set (holders_of s.callers) c (record { granule = granule; step = merging_step (stored n z j) }))) (set s.words (place_of g (Level1 i)) word)) (sym is.two) are)
-    after))
+    subst (ActKeeps s c a t (stage.Merging f k)) store (
+      tt,
+      subst (λ (p : ℕ). HoldsIn g (scene_after s c (caller.Agent (goes_to (at_stage a (stage.Merging f k)) (merged_stage (fuse.took_of f 0) k))) (set s.words p word) [])) (sym place)
+          (merged_holds acting (fuse.took_of f 0) (Some (Level1 i)) (set s.words (place_of g (Level1 i)) word) (writes_one g s.words (Level1 i) word within) tt refl refl refl (acting.made 0)
+          (subst (λ (n : ℕ). AreWords g (map_in s) (apart_by g.setup (set (holders_of s.callers) c (record { granule = granule; step = merging_step (stored n z j) }))) (set s.words (place_of g (Level1 i)) word)) (sym is.two) are)
+          after),
+    )
 merge_by first own two max v (Ended o) k next acting is there = absurd cc
 
 pub merge_keeps : {s : Scene} {c : ℕ} {a : AgentData} {t : Task} (f : FuseData) (k : Generations) (next : Act) (acting : Acting s c a t (stage.Merging f k)) → fuse.next_of f ≡ Some next → ActKeeps s c a t (stage.Merging f k) next

@@ -1,7 +1,5 @@
 -- The change of a granule.
 use Rattle.std.proofs.Common.{◌≡◌, ◌≢◌, ℕ, ◌+◌, ◌/◌, ◌%◌, ◌<◌, ◌∷◌, [], List, Bool, true, not, eqb, Some, None, length, set, refl, sym, ap, ◌∙◌, subst, arith}
-use Rattle.std.specs.Prelude.{slice_get, slice_index}
-use Rattle.std.specs.Option.{option_map}
 use Rattle.std.proofs.lemmas.List.{get_or-set_same, get_or-set_other}
 use Rattle.std.proofs.lemmas.Option.{slice_get_within}
 use Rattle.gpi_values.specs.declared.gpi.Gpi.{Gpi}
@@ -15,17 +13,16 @@ use Rattle.table_meaning.proofs.FactLemmas.{changes}
 use Rattle.table_meaning.proofs.StepLemmas.{change_store}
 use Rattle.gpt_descriptors.specs.declared.size.Size.{Size}
 use Rattle.gpt_descriptors.specs.declared.size.Size.TheVariants as size
-use Rattle.gpt_descriptors.specs.Sizes.{granule_bytes, size_bytes, space_granules}
+use Rattle.gpt_descriptors.specs.Sizes.{granule_bytes, size_bytes}
 use Rattle.gpt_descriptors.specs.Places.{Level1, place_of, l0_words, l1_words, l1_index_of, l1_place_of}
 use Rattle.gpt_descriptors.proofs.PlaceLemmas.{index_within, place_below, generation_named}
 use Rattle.shared_words.specs.declared.act.Act.TheVariants as act
 use Rattle.history.specs.declared.call.Task.{Task}
-use Rattle.history.specs.States.{start}
 use Rattle.history.specs.Counts.{region_of}
 use Rattle.delegate_ops.specs.declared.stage.Change.{Change}
 use Rattle.delegate_ops.specs.declared.stage.Kept.{Kept}
 use Rattle.delegate_ops.specs.declared.stage.Stage.TheVariants as stage
-use Rattle.delegate_ops.specs.Deciding.{address_of, granule_place}
+use Rattle.delegate_ops.specs.Deciding.{address_of}
 use Rattle.delegate_ops.specs.Changing.{from_of, to_of, changed_word}
 use Rattle.delegate_ops.specs.InnerAgents.{AgentData, kept_changed, goes_to}
 use Rattle.delegate_ops.proofs.AgentLemmas.{at_stage}

@@ -1,5 +1,5 @@
 -- L1 words by their number in the protected space.
-use Rattle.std.proofs.Common.{◌≡◌, ℕ, zero, suc, ◌+◌, ◌*◌, ◌/◌, ◌%◌, ◌<◌, ◌∷◌, [], List, length, get_or, true, refl, sym, ap, ◌∙◌, subst, arith, mul_comm, take}
+use Rattle.std.proofs.Common.{◌≡◌, ℕ, zero, suc, ◌+◌, ◌*◌, ◌/◌, ◌%◌, ◌<◌, ◌∷◌, [], List, length, get_or, true, sym, ap, ◌∙◌, subst, arith, mul_comm, take}
 use Rattle.std.proofs.Math.Nat.{div-div-eq-div-mul}
 use Rattle.std.proofs.lemmas.Nat.{div-add-mod', mul-add-lt, mod_below}
 use Rattle.std.proofs.lemmas.Bool.{eqb-true, and_parts}

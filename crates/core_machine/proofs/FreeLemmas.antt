@@ -22,7 +22,7 @@ use Rattle.delegate_ops.specs.declared.stage.Stage.TheVariants as stage
 use Rattle.delegate_ops.specs.Deciding.{address_of}
 use Rattle.delegate_ops.specs.Script.{granule_of_task}
 use Rattle.delegate_ops.proofs.AgentLemmas.{idle_stage}
-use Rattle.delegate_ops.specs.InnerAgents.{AgentData, IsAgent, task_of}
+use Rattle.delegate_ops.specs.InnerAgents.{AgentData, task_of}
 use Rattle.core_machine.specs.declared.caller.Caller.{Caller}
 use Rattle.core_machine.specs.declared.caller.Caller.TheVariants as caller
 use Rattle.core_machine.specs.InnerLocks.{is_inside, holds, LocksAreHeld}

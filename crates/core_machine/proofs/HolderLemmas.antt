@@ -8,7 +8,6 @@ use Rattle.std.proofs.lemmas.Option.{slice_get-map, slice_get-get_or}
 use Rattle.std.proofs.lemmas.List.{map-set, length-set}
 use Rattle.gpi_values.specs.declared.gpi.Gpi.{Gpi}
 use Rattle.gpi_values.specs.declared.gpi.Gpi.TheVariants as gpi
-use Rattle.gpt_descriptors.specs.declared.size.Size.{Size}
 use Rattle.gpt_descriptors.specs.declared.size.Size.TheVariants as size
 use Rattle.gpt_descriptors.specs.Sizes.{SetupData, granule_bytes, word_bytes, words_of}
 use Rattle.gpt_descriptors.specs.Canonical.{canonical_word}
@@ -29,9 +28,9 @@ use Rattle.history.specs.declared.entry.Entry.TheVariants as entry
 use Rattle.history.specs.States.{State, start, after_entry, state_after}
 use Rattle.delegate_ops.specs.declared.stage.Stage.{Stage}
 use Rattle.delegate_ops.specs.declared.stage.Stage.TheVariants as stage
-use Rattle.delegate_ops.specs.Deciding.{address_of, idle_answer}
+use Rattle.delegate_ops.specs.Deciding.{address_of}
 use Rattle.delegate_ops.specs.Script.{granule_of_task}
-use Rattle.delegate_ops.specs.InnerAgents.{AgentData, IsAgent, task_of, goes_to}
+use Rattle.delegate_ops.specs.InnerAgents.{AgentData, task_of, goes_to}
 use Rattle.delegate_ops.proofs.AgentLemmas.{at_stage, idle_stage}
 use Rattle.core_machine.specs.declared.caller.Caller.{Caller}
 use Rattle.core_machine.specs.declared.caller.Caller.TheVariants as caller

@@ -1,10 +1,9 @@
 -- The loads under a lock: of the L1 word, and of the generations.
-use Rattle.std.proofs.Common.{◌≡◌, ℕ, ◌+◌, ◌*◌, ◌/◌, ◌%◌, ◌<◌, ◌++◌, ◌∷◌, [], List, map, true, false, not, ◌||◌, eqb, ltb, Option, Some, None, length, take, refl, sym, ap, ◌∙◌, subst, arith, inl, inr}
+use Rattle.std.proofs.Common.{◌≡◌, ℕ, ◌+◌, ◌*◌, ◌/◌, ◌%◌, ◌++◌, ◌∷◌, [], List, map, true, false, not, ◌||◌, eqb, ltb, Option, Some, None, length, take, refl, sym, ap, ◌∙◌, subst, arith, inl, inr}
 use Rattle.std.specs.Prelude.{slice_get, slice_index}
 use Rattle.std.specs.Option.{option_map}
 use Rattle.std.proofs.lemmas.Bool.{cases_Bool, eqb-true, or_parts}
-use Rattle.std.proofs.lemmas.List.{length-set, set-get_or}
-use Rattle.std.proofs.lemmas.Option.{slice_get-get_or}
+use Rattle.std.proofs.lemmas.List.{set-get_or}
 use Rattle.gpi_values.specs.declared.gpi.Gpi.{Gpi}
 use Rattle.gpi_values.specs.declared.gpi.Gpi.TheVariants as gpi
 use Rattle.gpi_values.specs.Values.{own_of}
@@ -12,7 +11,7 @@ use Rattle.gpi_values.proofs.ValueLemmas.{value_one}
 use Rattle.gpt_descriptors.specs.declared.size.Size.{Size}
 use Rattle.gpt_descriptors.specs.declared.size.Size.TheVariants as size
 use Rattle.gpt_descriptors.specs.declared.size.Generations.{Generations}
-use Rattle.gpt_descriptors.specs.Sizes.{granule_bytes, word_bytes, table_words, region_bytes, space_bytes, space_granules}
+use Rattle.gpt_descriptors.specs.Sizes.{granule_bytes, word_bytes, table_words, region_bytes, space_bytes}
 use Rattle.gpt_descriptors.specs.declared.entry.L1Entry.{L1Entry}
 use Rattle.gpt_descriptors.specs.declared.entry.L1Entry.TheVariants as l1
 use Rattle.gpt_descriptors.specs.Entries.{l1_entry, word_gpi}
@@ -32,13 +31,12 @@ use Rattle.history.specs.declared.call.Answer.{Answer}
 use Rattle.history.specs.declared.call.Answer.TheVariants as answer
 use Rattle.history.specs.declared.entry.Entry.{Entry}
 use Rattle.history.specs.declared.entry.Entry.TheVariants as entry
-use Rattle.history.specs.States.{State, start, after_entry, state_after}
 use Rattle.history.specs.Legality.{needed}
 use Rattle.history.specs.Counts.{counts_around, count_of, region_of}
 use Rattle.delegate_ops.specs.declared.stage.Kept.{Kept}
 use Rattle.delegate_ops.specs.declared.stage.Stage.{Stage}
 use Rattle.delegate_ops.specs.declared.stage.Stage.TheVariants as stage
-use Rattle.delegate_ops.specs.Deciding.{address_of, idle_answer, is_needed, refusal_of, granule_place, looked_answer, is_granules, generation_in, worn_answer, is_unusable}
+use Rattle.delegate_ops.specs.Deciding.{address_of, idle_answer, is_needed, refusal_of, granule_place, looked_answer, generation_in, worn_answer, is_unusable}
 use Rattle.delegate_ops.specs.Changing.{first_change, from_of}
 use Rattle.delegate_ops.specs.InnerAgents.{AgentData, IsReadable, is_look, looked_stage, loaded_stage, read_all, read_stage, kept_read, goes_to, took_at, fresh}
 use Rattle.delegate_ops.proofs.DecidingLemmas.{acts_usable}
@@ -60,7 +58,7 @@ use Rattle.core_machine.proofs.ActLemmas.{Acting, lock_of_task, other_lock, othe
 use Rattle.core_machine.proofs.LockActs.{ActKeeps}
 use Rattle.core_machine.specs.Facts.{IsCounted}
 use Rattle.delegate_ops.specs.InnerEntries.{entries_at, known_entries, made_at}
-use Rattle.delegate_ops.specs.Script.{granule_of_task, reads}
+use Rattle.delegate_ops.specs.Script.{granule_of_task}
 
 -- ---- a load
 

@@ -12,7 +12,7 @@ use Rattle.std.proofs.lemmas.List.Elements.{All-head, All-tail}
 use Rattle.std.proofs.lemmas.Option.{slice_get_cases, slice_get-map, slice_get_past, slice_get_within}
 use Rattle.gpt_descriptors.specs.declared.size.Size.{Size}
 use Rattle.gpt_descriptors.specs.declared.size.Size.TheVariants as size
-use Rattle.gpt_descriptors.specs.Sizes.{granule_bytes, size_bytes, space_granules}
+use Rattle.gpt_descriptors.specs.Sizes.{granule_bytes, size_bytes}
 use Rattle.gpt_descriptors.specs.Places.{GeometryData, blocks_in_region}
 use Rattle.shared_words.specs.declared.act.Act.{Act}
 use Rattle.bit_locks.specs.Locks.{lock_number, lock_bit}
@@ -22,7 +22,6 @@ use Rattle.scenario_text.specs.declared.scenario.Script.TheVariants as script
 use Rattle.history.specs.declared.call.Task.{Task}
 use Rattle.history.specs.declared.call.Answer.{Answer}
 use Rattle.history.specs.declared.entry.Entry.{Entry}
-use Rattle.history.specs.States.{start}
 use Rattle.history.specs.Calls.{task_at, answer_at}
 use Rattle.history.specs.Counts.{region_of, count_of}
 use Rattle.delegate_ops.specs.declared.stage.Stage.{Stage}
@@ -47,7 +46,6 @@ use Rattle.core_machine.proofs.OthersLemmas.{Holder, made_at_place, is_holder, h
 use Rattle.core_machine.proofs.WordLemmas.{number_by_region}
 use Rattle.core_machine.proofs.RaisedLemmas.{others_raised}
 use Rattle.core_machine.proofs.ActLemmas.{lock_low}
-use Rattle.core_machine.proofs.HolderLemmas.{state_length}
 use Rattle.core_machine.proofs.MachineLemmas.{turns_hold, scene_of}
 use Rattle.core_machine.proofs.TraceLemmas.{played_walked, trace_entries, trace_words, trace_answered, IsDone, done_stays, turns_taken, trace_known, trace_counts}
 use Rattle.core_machine.proofs.AnswerLemmas.{calls_cause, alone_told, worn_told}
@@ -63,7 +61,7 @@ use Rattle.core_machine.specs.Facts.{IsCounted, generation_word, FitsHistory}
 use Rattle.core_machine.specs.Trace.{TraceEvent, events_of, FollowsScript, HasEnded, IsTrace, answers_by, history_of}
 use Rattle.core_machine.specs.Scenarios.{first_map, geometry_of, task_of_ask, tasks_of, turns_in, first_words}
 use Rattle.core_machine.specs.Run.{IsRun}
-use Rattle.core_machine.specs.InnerScene.{Scene, state_in, HoldsIn}
+use Rattle.core_machine.specs.InnerScene.{Scene, HoldsIn}
 
 -- ---- tasks
 

@@ -1,16 +1,15 @@
 -- Addresses and their granules, and words that are descriptors.
-use Rattle.std.proofs.Common.{◌≡◌, ℕ, ◌+◌, ◌*◌, ◌/◌, ◌%◌, ◌^◌, ◌<◌, List, true, false, eqb, Option, Some, None, refl, sym, ap, ◌∙◌, subst, arith, inl, inr, mul_comm}
-use Rattle.std.specs.Prelude.{slice_get, slice_index, is_some}
+use Rattle.std.proofs.Common.{◌≡◌, ℕ, ◌+◌, ◌*◌, ◌/◌, ◌%◌, ◌<◌, true, false, eqb, Option, Some, None, refl, sym, ap, ◌∙◌, subst, arith, inl, inr, mul_comm}
+use Rattle.std.specs.Prelude.{is_some}
 use Rattle.std.proofs.Math.Nat.{mod-add-div, div-lt_iff_lt-mul, mul-div_cancel}
 use Rattle.std.proofs.lemmas.Bool.{cases_Bool, eqb-true}
 use Rattle.gpi_values.specs.declared.gpi.Gpi.{Gpi}
 use Rattle.gpt_descriptors.specs.declared.entry.L1Entry.{L1Entry}
 use Rattle.gpt_descriptors.specs.Sizes.{SetupData, granule_bytes, table_words, region_bytes, space_bytes, space_granules}
 use Rattle.gpt_descriptors.specs.Entries.{l1_entry, word_gpi}
-use Rattle.gpt_descriptors.specs.Places.{GeometryData, IsGeometry, l1_words, l1_index_of, l1_place_of}
+use Rattle.gpt_descriptors.specs.Places.{GeometryData}
 use Rattle.gpt_descriptors.proofs.SizeLemmas.{granule_low, word_is, table_whole}
-use Rattle.gpt_descriptors.proofs.PlaceLemmas.{index_within}
-use Rattle.delegate_ops.specs.Deciding.{granule_place, is_unusable}
+use Rattle.delegate_ops.specs.Deciding.{is_unusable}
 
 -- ---- granules
 

@@ -11,9 +11,9 @@ use Rattle.gpi_values.specs.declared.gpi.Gpi.{Gpi}
 use Rattle.gpt_descriptors.specs.declared.size.Size.{Size}
 use Rattle.gpt_descriptors.specs.declared.size.Size.TheVariants as size
 use Rattle.gpt_descriptors.specs.Sizes.{SetupData, word_bytes, words_of, size_bytes, space_bytes}
-use Rattle.gpt_descriptors.specs.Places.{GeometryData, IsGeometry, WordName, IsWordName, Lock, Generation, Duty, Level1, Line, place_of, l0_words, gen_place_of, blocks_in_region, l1_index_of, l1_place_of}
+use Rattle.gpt_descriptors.specs.Places.{GeometryData, IsGeometry, WordName, IsWordName, Lock, Generation, Duty, Level1, Line, place_of, gen_place_of, blocks_in_region, l1_index_of, l1_place_of}
 use Rattle.gpt_descriptors.proofs.SizeLemmas.{words_whole}
-use Rattle.gpt_descriptors.proofs.PlaceLemmas.{place_distinct, generation_named, index_within, l1_index_one}
+use Rattle.gpt_descriptors.proofs.PlaceLemmas.{place_distinct, generation_named}
 use Rattle.bit_locks.specs.Locks.{lock_number, lock_bit}
 use Rattle.history.specs.declared.call.Task.{Task}
 use Rattle.delegate_ops.specs.declared.stage.Stage.{Stage}

@@ -1,12 +1,11 @@
 -- Transitions walk their script from the loads to the unlock: splitting, changes, raises and merging.
-use Rattle.std.proofs.Common.{◌≡◌, ℕ, suc, ltb, ◌+◌, ◌<◌, ◌≤◌, ◌++◌, ◌∷◌, [], List, true, false, Option, Some, None, length, drop, map, append_assoc, append-nil, refl, sym, ap, ◌∙◌, subst, inl, inr, arith}
+use Rattle.std.proofs.Common.{◌≡◌, ℕ, suc, ltb, ◌+◌, ◌++◌, ◌∷◌, [], List, Option, Some, None, length, drop, map, append_assoc, append-nil, refl, sym, ap, ◌∙◌, subst, inl, inr, arith}
 use Rattle.std.specs.Prelude.{slice_get}
 use Rattle.std.proofs.Math.Seq.{drop-cons}
 use Rattle.std.proofs.lemmas.Bool.{cases_Bool, ltb-false}
 use Rattle.std.proofs.lemmas.Option.{slice_get_within, get_or_from_slice_get}
 use Rattle.std.proofs.lemmas.List.{map-append, drop_all}
 use Rattle.std.proofs.lemmas.List.FromFn.{length-map-range_with_len}
-use Rattle.gpi_values.specs.declared.gpi.Gpi.{Gpi}
 use Rattle.gpt_descriptors.specs.declared.size.Size.{Size}
 use Rattle.gpt_descriptors.specs.declared.size.Size.TheVariants as size
 use Rattle.gpt_descriptors.specs.declared.size.Generations.{Generations}
@@ -28,15 +27,13 @@ use Rattle.history.specs.declared.call.Task.{Task}
 use Rattle.history.specs.declared.call.Task.TheVariants as task
 use Rattle.history.specs.declared.call.Answer.{Answer}
 use Rattle.history.specs.declared.call.Answer.TheVariants as answer
-use Rattle.delegate_ops.specs.declared.stage.Change.{Change}
 use Rattle.delegate_ops.specs.declared.stage.Change.TheVariants as change
 use Rattle.delegate_ops.specs.declared.stage.Kept.{Kept}
-use Rattle.delegate_ops.specs.declared.stage.Stage.{Stage}
 use Rattle.delegate_ops.specs.declared.stage.Stage.TheVariants as stage
 use Rattle.delegate_ops.specs.Deciding.{address_of, idle_answer, worn_answer}
 use Rattle.delegate_ops.specs.Changing.{first_change, changed_word, raised, splitting_of, split_stores, word_split}
 use Rattle.delegate_ops.specs.InnerAgents.{IsChangeOf, loaded_stage, read_all, split_stage, merging_stage, merged_stage, number_of}
-use Rattle.delegate_ops.specs.Script.{CallEvent, Step, plain, plain_step, plain_event, Reads, Changes, Merges, Decides, IsDone, change_and_raises, transition_steps, all_steps, kept_split, last_word, last_generations}
+use Rattle.delegate_ops.specs.Script.{CallEvent, Step, plain, plain_step, plain_event, Reads, Changes, Merges, Decides, change_and_raises, transition_steps, all_steps, kept_split, last_word, last_generations}
 use Rattle.delegate_ops.specs.InnerScript.{IsChanging, IsMergingAt, IsPrefix}
 use Rattle.delegate_ops.specs.InnerEntries.{known_entries}
 use Rattle.delegate_ops.proofs.NextLemmas.{acts_index}

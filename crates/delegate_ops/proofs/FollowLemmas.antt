@@ -1,5 +1,5 @@
 -- An agent that has come to its stage by some events follows its script by them.
-use Rattle.std.proofs.Common.{◌≡◌, ◌≢◌, ℕ, zero, suc, ◌+◌, ◌≤◌, ◌<◌, ◌++◌, ◌∷◌, [], List, Bool, true, false, Option, Some, None, length, map, append_assoc, append-nil, refl, sym, ap, ◌∙◌, subst, inl, inr, arith}
+use Rattle.std.proofs.Common.{◌≡◌, ℕ, zero, suc, ◌≤◌, ◌++◌, ◌∷◌, [], List, true, Option, Some, None, length, map, append_assoc, append-nil, refl, sym, ap, ◌∙◌, subst, inl, inr, arith}
 use Rattle.std.specs.Prelude.{slice_get, MatchOption}
 use Rattle.std.specs.List.{All}
 use Rattle.std.proofs.lemmas.Bool.{cases_Bool}
@@ -12,7 +12,6 @@ use Rattle.gpt_descriptors.specs.declared.entry.L1Entry.TheVariants as l1
 use Rattle.gpt_descriptors.specs.Sizes.{generation_last}
 use Rattle.gpt_descriptors.specs.Entries.{l1_word}
 use Rattle.gpt_descriptors.specs.Places.{GeometryData, l1_place_of}
-use Rattle.gpt_descriptors.proofs.MeaningLemmas.{contiguous_again}
 use Rattle.gpt_descriptors.proofs.CanonicalLemmas.{words_some}
 use Rattle.shared_words.specs.declared.act.Act.TheVariants as act
 use Rattle.shared_words.specs.Events.{Event}
@@ -26,12 +25,11 @@ use Rattle.history.specs.declared.call.Task.TheVariants as task
 use Rattle.history.specs.declared.call.Answer.{Answer}
 use Rattle.history.specs.declared.call.Answer.TheVariants as answer
 use Rattle.history.specs.Counts.{is_worn}
-use Rattle.delegate_ops.specs.declared.stage.Change.{Change}
 use Rattle.delegate_ops.specs.declared.stage.Kept.{Kept}
 use Rattle.delegate_ops.specs.declared.stage.Stage.{Stage}
 use Rattle.delegate_ops.specs.declared.stage.Stage.TheVariants as stage
 use Rattle.delegate_ops.specs.Deciding.{address_of, idle_answer, looked_answer, worn_answer}
-use Rattle.delegate_ops.specs.Script.{CallEvent, Step, plain, lock_bit_of, entries_of, IsWait, TakesLock, Looks, Reads, reads, Changes, transition_steps, Merges, plain_event, Decides, Releases, IsUnderWay, Follows}
+use Rattle.delegate_ops.specs.Script.{CallEvent, Step, plain, lock_bit_of, entries_of, IsWait, TakesLock, reads, plain_event, Decides, IsUnderWay, Follows}
 use Rattle.delegate_ops.specs.InnerAgents.{AgentData, IsAgent, HasActs, task_of, has_ended}
 use Rattle.delegate_ops.specs.InnerScript.{IsReading, reads_before, IsChanging, IsMergingAt, IsPrefix, HasWalked}
 use Rattle.delegate_ops.proofs.BlockLemmas.{one_made, done_by}

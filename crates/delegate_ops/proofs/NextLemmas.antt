@@ -1,9 +1,8 @@
 -- An agent with a call left has a next act.
-use Rattle.std.proofs.Common.{◌≡◌, ℕ, ◌+◌, ◌*◌, ◌/◌, ◌%◌, eqb, ltb, take, Bool, true, false, not, Option, Some, None, refl, sym, ap, ◌∙◌, subst, inl, inr}
-use Rattle.std.specs.Prelude.{is_some, slice_index, option_and_then}
-use Rattle.std.specs.Option.{option_map}
+use Rattle.std.proofs.Common.{◌≡◌, ℕ, ◌+◌, ◌*◌, ◌/◌, ◌%◌, eqb, ltb, take, true, false, not, Option, Some, None, refl, ap, ◌∙◌, inl, inr}
+use Rattle.std.specs.Prelude.{is_some, slice_index}
 use Rattle.std.proofs.lemmas.Bool.{cases_Bool}
-use Rattle.gpt_descriptors.specs.Sizes.{granule_bytes, word_bytes, table_words, region_bytes, space_bytes}
+use Rattle.gpt_descriptors.specs.Sizes.{granule_bytes, word_bytes, table_words, space_bytes}
 use Rattle.gpt_descriptors.specs.Level0.{is_table, table_count}
 use Rattle.gpt_descriptors.specs.Places.{GeometryData, Level1, place_of, l0_words, l0_word_of, l1_index_of, l1_place_of}
 use Rattle.gpt_descriptors.proofs.PlaceLemmas.{region_of_word}

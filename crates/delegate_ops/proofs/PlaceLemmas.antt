@@ -1,18 +1,14 @@
 -- A transition at the places of its task makes the acts of the task under way.
-use Rattle.std.proofs.Common.{◌≡◌, ℕ, Option, Some, None, refl, sym, ap, ◌∙◌, subst}
-use Rattle.std.specs.Prelude.{option_and_then}
+use Rattle.std.proofs.Common.{◌≡◌, ℕ, None, refl}
 use Rattle.gpt_descriptors.specs.declared.size.Size.{Size}
 use Rattle.gpt_descriptors.specs.declared.size.Size.TheVariants as size
 use Rattle.gpt_descriptors.specs.Places.{GeometryData}
 use Rattle.history.specs.declared.call.Task.{Task}
-use Rattle.history.specs.declared.call.Task.TheVariants as task
-use Rattle.history.specs.declared.call.Answer.{Answer}
-use Rattle.delegate_ops.specs.declared.places.Places.{Places}
 use Rattle.delegate_ops.specs.declared.stage.Stage.{Stage}
 use Rattle.delegate_ops.specs.declared.stage.Stage.TheVariants as stage
 use Rattle.delegate_ops.specs.Deciding.{idle_answer}
-use Rattle.delegate_ops.specs.InnerAgents.{AgentData, HasActs, task_of, act_at, next_of, is_held}
-use Rattle.delegate_ops.specs.InnerTransition.{TransitionData, places_of, act_by, is_held_by}
+use Rattle.delegate_ops.specs.InnerAgents.{act_at, is_held}
+use Rattle.delegate_ops.specs.InnerTransition.{places_of, act_by, is_held_by}
 use Rattle.delegate_ops.proofs.NextLemmas.{acts_place}
 
 same_load : (g : GeometryData) (t : Task) (z : Size) (k : _) → act_by (places_of g t) (stage.Reading z k) t ≡ act_at g (stage.Reading z k) t

@@ -1,38 +1,32 @@
 -- Agents walk their script.
-use Rattle.std.proofs.Common.{◌≡◌, ℕ, suc, ◌+◌, ◌++◌, ◌∷◌, [], List, Bool, true, false, Option, Some, None, length, drop, append_assoc, append-nil, length-append, refl, sym, ap, ◌∙◌, subst, inl, inr, arith}
+use Rattle.std.proofs.Common.{◌≡◌, ℕ, suc, ◌+◌, ◌++◌, ◌∷◌, [], List, Bool, false, Option, Some, None, length, drop, append_assoc, append-nil, length-append, refl, sym, ap, ◌∙◌, subst, inl, inr, arith}
 use Rattle.std.specs.Prelude.{slice_get}
 use Rattle.std.specs.List.{All}
 use Rattle.std.specs.Option.{option_map}
 use Rattle.std.specs.Int.Bits.{bit_and}
-use Rattle.std.proofs.lemmas.Bool.{cases_Bool}
 use Rattle.std.proofs.lemmas.Bool.Decides.{eqb_tells}
-use Rattle.std.proofs.lemmas.List.{map-append}
 use Rattle.std.proofs.lemmas.List.Elements.{All-nil, All-cons, All-append}
 use Rattle.gpt_descriptors.specs.declared.size.Size.{Size}
 use Rattle.gpt_descriptors.specs.declared.size.Size.TheVariants as size
-use Rattle.gpt_descriptors.specs.declared.size.Generations.{Generations}
 use Rattle.gpt_descriptors.specs.Places.{GeometryData, l1_place_of}
 use Rattle.shared_words.specs.declared.act.Act.{Act}
 use Rattle.shared_words.specs.declared.act.Act.TheVariants as act
 use Rattle.bit_locks.specs.Locks.{take_act, release_act}
 use Rattle.invalidate.specs.Generations.{gen_load_of, gen_raise_of}
 use Rattle.history.specs.declared.call.Task.{Task}
-use Rattle.history.specs.declared.call.Task.TheVariants as task
 use Rattle.history.specs.declared.call.Answer.{Answer}
-use Rattle.history.specs.declared.call.Answer.TheVariants as answer
 use Rattle.delegate_ops.specs.declared.stage.Change.{Change}
 use Rattle.delegate_ops.specs.declared.stage.Change.TheVariants as change
 use Rattle.delegate_ops.specs.declared.stage.Kept.{Kept}
 use Rattle.delegate_ops.specs.declared.stage.Stage.{Stage}
 use Rattle.delegate_ops.specs.declared.stage.Stage.TheVariants as stage
-use Rattle.delegate_ops.specs.Deciding.{address_of, idle_answer, looked_answer, is_granules, generation_in, worn_answer}
-use Rattle.delegate_ops.specs.Changing.{first_change, changed_word}
+use Rattle.delegate_ops.specs.Deciding.{address_of, idle_answer, looked_answer, generation_in, worn_answer}
+use Rattle.delegate_ops.specs.Changing.{changed_word}
 use Rattle.shatter.specs.Splitting.{advanced}
 use Rattle.fuse.specs.Merging as fuse
 use Rattle.delegate_ops.specs.InnerAgents.{AgentData, IsAgent, HasActs, is_look, task_of, answered_first, idle_answers, fresh, act_at, next_of, looked_stage, read_stage, split_stage, merged_stage, raised_stage, kept_read, kept_changed, kept_raised, took_at, took_under_way, took_of}
-use Rattle.history.specs.declared.entry.Entry.{Entry}
-use Rattle.delegate_ops.specs.Script.{CallEvent, Step, plain, lock_bit_of, IsWait, TakesLock, Looks, Reads, Changes, completion, change_entry, Decides, Releases, IsCall, AreCallEvents}
-use Rattle.delegate_ops.specs.InnerScript.{IsReading, reads_before, IsChanging, IsPrefix, HasWalked}
+use Rattle.delegate_ops.specs.Script.{CallEvent, Step, plain, lock_bit_of, IsWait, TakesLock, Looks, completion, change_entry, Decides, Releases, IsCall, AreCallEvents}
+use Rattle.delegate_ops.specs.InnerScript.{IsReading, reads_before, IsPrefix, HasWalked}
 use Rattle.delegate_ops.specs.InnerEntries.{known_entries, made_at}
 use Rattle.delegate_ops.proofs.BlockLemmas.{one_made, read_all_prefix, split_prefix, begun_prefix, merged_prefix}
 use Rattle.delegate_ops.proofs.AgentLemmas.{acts_move, first_is_change, no_look_at}

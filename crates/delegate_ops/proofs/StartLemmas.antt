@@ -1,5 +1,5 @@
 -- Where splitting begins.
-use Rattle.std.proofs.Common.{◌≡◌, ℕ, ◌+◌, ◌-◌, ◌*◌, ◌/◌, ◌%◌, Some, None, refl, sym, ap, ◌∙◌, subst, arith}
+use Rattle.std.proofs.Common.{◌≡◌, ℕ, ◌+◌, ◌-◌, ◌*◌, ◌/◌, ◌%◌, Some, None, refl, ap, ◌∙◌, arith}
 use Rattle.std.proofs.lemmas.Nat.{div-add-mod'}
 use Rattle.gpi_values.specs.declared.gpi.Gpi.{Gpi}
 use Rattle.gpt_descriptors.specs.declared.size.Size.{Size}
@@ -7,7 +7,7 @@ use Rattle.gpt_descriptors.specs.declared.size.Size.TheVariants as size
 use Rattle.gpt_descriptors.specs.Sizes.{word_bytes, words_of}
 use Rattle.gpt_descriptors.specs.Places.{GeometryData, Level1, place_of, l0_words, l1_index_of, l1_place_of}
 use Rattle.table_meaning.proofs.PlaceLemmas.{own_rest}
-use Rattle.shatter.specs.Splitting.{SplittingData, started}
+use Rattle.shatter.specs.Splitting.{started}
 use Rattle.history.specs.declared.call.Task.{Task}
 use Rattle.delegate_ops.specs.Deciding.{address_of, idle_answer}
 use Rattle.delegate_ops.specs.Changing.{word_in_block, splitting_of}

@@ -1,11 +1,11 @@
 -- A transition by where its acts are made: places that are worked out once, when its call begins.
-use Rattle.std.specs.Prelude.{◌≡◌, ℕ, ◌+◌, ◌<◌, Bool, false, not, ◌==◌, true, Option, Some, None, IsTrue, is_some, if◌then◌else◌}
+use Rattle.std.specs.Prelude.{◌≡◌, ℕ, ◌+◌, Bool, false, not, ◌==◌, true, Option, Some, None, IsTrue, is_some, if◌then◌else◌}
 use Rattle.std.specs.Int.Bits.{bit_and}
 use Rattle.gpi_values.specs.Values.{value_of}
 use Rattle.gpt_descriptors.specs.declared.size.Size.{Size}
 use Rattle.gpt_descriptors.specs.declared.size.Size.TheVariants as size
 use Rattle.gpt_descriptors.specs.Sizes.{generation_in}
-use Rattle.gpt_descriptors.specs.Entries.{l1_entry, word_gpi}
+use Rattle.gpt_descriptors.specs.Entries.{l1_entry}
 use Rattle.gpt_descriptors.specs.Fields.{with_field}
 use Rattle.gpt_descriptors.specs.Places.{GeometryData, IsGeometry, l1_place_of, gen_place_of}
 use Rattle.shared_words.specs.declared.act.Act.{Act}
@@ -16,7 +16,6 @@ use Rattle.history.specs.declared.call.Task.TheVariants as task
 use Rattle.history.specs.declared.call.Answer.{Answer}
 use Rattle.delegate_ops.specs.declared.places.Places.{Places}
 use Rattle.delegate_ops.specs.declared.stage.Change.{Change}
-use Rattle.delegate_ops.specs.declared.stage.Kept.{Kept}
 use Rattle.delegate_ops.specs.declared.stage.Stage.{Stage}
 use Rattle.delegate_ops.specs.declared.stage.Stage.TheVariants as stage
 use Rattle.shatter.specs.Splitting.{next_store}

@@ -1,10 +1,9 @@
 -- The script of a transition: its acts in their order, each with the word that it answered and the
 -- entries that it makes in the history (TF-A, gpt_delegate_pas and gpt_undelegate_pas). An agent is
 -- shown to follow it. Cleaning and the barrier are not in it yet.
-use Rattle.std.specs.Prelude.{◌≡◌, ◌≢◌, ◌⊎◌, ℕ, ◌+◌, ◌/◌, false, true, List, [], ◌∷◌, ◌++◌, length, map, slice_get, Option, Some, None, MatchOption}
+use Rattle.std.specs.Prelude.{◌≡◌, ◌≢◌, ◌⊎◌, ℕ, ◌+◌, ◌/◌, List, [], ◌∷◌, ◌++◌, length, map, slice_get, Option, Some, None, MatchOption}
 use Rattle.std.specs.List.{All}
 use Rattle.std.specs.Int.Bits.{bit_and}
-use Rattle.gpt_descriptors.specs.declared.size.Size.{Size}
 use Rattle.gpt_descriptors.specs.declared.size.Size.TheVariants as size
 use Rattle.gpt_descriptors.specs.declared.size.Generations.{Generations}
 use Rattle.gpt_descriptors.specs.Sizes.{granule_bytes}

@@ -1,4 +1,4 @@
-use Rattle.std.proofs.Common.{ap, sym, ◌∙◌}
+use Rattle.std.proofs.Common.{ap, ◌∙◌}
 use Rattle.gpt_descriptors.specs.Sizes.{words_of}
 use Rattle.gpt_descriptors.specs.declared.size.Size.TheVariants as size
 use Rattle.delegate_ops.proofs.StartLemmas.{split_start}
