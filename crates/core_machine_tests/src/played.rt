@@ -25,21 +25,27 @@ fn played(alloc: Global, scenario: &Scenario) -> Option<Outcome>
     }
 }
 
-/// The text of a scenario of 4 GB, of which the first has this GPI, by granules.
-fn text(alloc: Global, first: u64, gpi: &str, rest: &str) -> Result<String, AllocError> {
+/// The text of a scenario of 4 GB with contiguous entries of up to `max` MB, of which the first has
+/// this GPI, by granules.
+fn text(alloc: Global, max: u64, first: u64, gpi: &str, rest: &str) -> Result<String, AllocError> {
     format!(in alloc;
-        "gpt 1\nspace 4\nmax 0\nlocks 1\nfirst {first}\nring 8\ntables 1\nbase 0x80000000\n\
+        "gpt 1\nspace 4\nmax {max}\nlocks 1\nfirst {first}\nring 8\ntables 1\nbase 0x80000000\n\
          region 0x0 0x40000000 granule {gpi}\n{rest}end\n"
     )
 }
 
 /// What playing such a scenario leaves.
-fn played_text(alloc: Global, first: u64, gpi: &str, rest: &str) -> Result<Outcome, Fail> {
-    let text = text(alloc, first, gpi, rest)?;
+fn played_at(alloc: Global, max: u64, first: u64, gpi: &str, rest: &str) -> Result<Outcome, Fail> {
+    let text = text(alloc, max, first, gpi, rest)?;
     match parse(alloc, text.as_bytes()) {
         Ok(scenario) => Ok(played(alloc, &scenario).ok_or("no outcome")?),
         Err(_) => Err("no scenario")?,
     }
+}
+
+/// What playing such a scenario without contiguous entries leaves.
+fn played_text(alloc: Global, first: u64, gpi: &str, rest: &str) -> Result<Outcome, Fail> {
+    played_at(alloc, 0, first, gpi, rest)
 }
 
 /// What the calls of a caller were answered.
@@ -136,6 +142,44 @@ fn a_granule_goes_and_comes_back(rt: HostRuntime) -> Result<(), Fail> {
 }
 
 #[test]
+fn a_splitting_may_be_cut_in_the_middle(rt: HostRuntime) -> Result<(), Fail> {
+    // The lock, the word and three generations, and then half of the 8,192 stores.
+    let rest = "agent\ndelegate 0x0 realm\nturn 0 4101\n";
+    let outcome = played_at(rt.alloc(), 512, 0, "nonsecure", rest)?;
+    assert!(rt; answers(&outcome, 0)?.is_empty());
+    let mut want = vec![in rt.alloc(); 0u64; 34954]?;
+    for (place, word) in want.iter_mut().enumerate() {
+        *word = match place {
+            0 => 1,
+            2186..2218 => 0x9999_9999_9999_9999,
+            2218..2698 => 0x191,
+            2698..6282 => 0x291,
+            6282..18570 => 0x391,
+            _ => 0,
+        };
+    }
+    assert_eq!(rt; outcome.words.as_slice(), want.as_slice());
+    Ok(())
+}
+
+#[test]
+fn a_granule_that_comes_back_lets_512_mb_merge(rt: HostRuntime) -> Result<(), Fail> {
+    let rest = "agent\ndelegate 0x0 realm\nundelegate 0x0 realm\nturn 0 16470\n";
+    let outcome = played_at(rt.alloc(), 512, 0, "nonsecure", rest)?;
+    assert_eq!(rt; answers(&outcome, 0)?, [done(1), done(3)].as_slice());
+    let mut want = vec![in rt.alloc(); 0u64; 34954]?;
+    for (place, word) in want.iter_mut().enumerate() {
+        *word = match place {
+            2 | 2050 | 2178 => 3,
+            2186..18570 => 0x391,
+            _ => 0,
+        };
+    }
+    assert_eq!(rt; outcome.words.as_slice(), want.as_slice());
+    Ok(())
+}
+
+#[test]
 fn a_worn_generation_ends_the_transitions(rt: HostRuntime) -> Result<(), Fail> {
     let rest = "agent\ndelegate 0x0 realm\nundelegate 0x0 realm\nturn 0 100\n";
     let first = 9223372036854775805;
@@ -160,7 +204,7 @@ fn callers_begin_without_answers(rt: HostRuntime) -> Result<(), Fail> {
     let rest =
         "agent\ndelegate 0x1 realm\ndelegate 0x0 realm\ncpu\nlook 0x0 realm\nlook 0x0 secure\n";
     let outcome = played_text(rt.alloc(), 0, "nonsecure", rest)?;
-    let text = text(rt.alloc(), 0, "nonsecure", rest)?;
+    let text = text(rt.alloc(), 0, 0, "nonsecure", rest)?;
     let scenario = parse(rt.alloc(), text.as_bytes())
         .ok()
         .ok_or("no scenario")?;

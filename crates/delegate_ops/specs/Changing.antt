@@ -46,7 +46,11 @@ raised_at z k = with_generation z (generation_in z k + 1) k
 
 -- all three raised
 abbrev pub raised : Generations → Generations
-raised k = record { two = k.two + 1; thirty_two = k.thirty_two + 1; five_twelve = k.five_twelve + 1 }
+raised k = record {
+  two = k.two + 1;
+  thirty_two = k.thirty_two + 1;
+  five_twelve = k.five_twelve + 1;
+}
 
 -- ---- splitting of a contiguous block, before the change
 
@@ -54,10 +58,12 @@ raised k = record { two = k.two + 1; thirty_two = k.thirty_two + 1; five_twelve 
 abbrev pub word_in_block : GeometryData → ℕ → Size → ℕ
 word_in_block g pa z = pa / word_bytes g.setup % words_of g.setup z
 
--- the splitting of the block of this size and GPI around the L1 word of an address, which is at this place
+-- the splitting of the block of this size and GPI around the L1 word of an address, which is at
+-- this place
 abbrev pub splitting_of : GeometryData → ℕ → ℕ → Size → Gpi → SplittingData
 splitting_of g pa place z v =
-    started (place - word_in_block g pa z) (word_in_block g pa z) v (words_of g.setup z) (words_of g.setup size.Two)
+    started (place - word_in_block g pa z) (word_in_block g pa z) v
+    (words_of g.setup z) (words_of g.setup size.Two)
 
 -- its stores, where the word is contiguous
 abbrev pub split_stores : GeometryData → ℕ → ℕ → Option L1Entry → List Act

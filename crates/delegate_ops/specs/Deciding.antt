@@ -30,7 +30,8 @@ address_of (task.Look pa space) = pa
 -- the address isn't aligned to a granule, isn't in the protected space, or has an L0 block
 abbrev pub is_unusable : GeometryData → ℕ → Bool
 is_unusable g pa =
-    not (pa % granule_bytes g.setup == 0) || not (nat_lt pa (space_bytes g.setup)) || not (is_table (l0_word_of g pa))
+    not (pa % granule_bytes g.setup == 0) || not (nat_lt pa (space_bytes g.setup))
+    || not (is_table (l0_word_of g pa))
 
 -- the answer of a task that has no acts
 abbrev pub idle_answer : GeometryData → Task → Option Answer
@@ -63,7 +64,8 @@ looked_answer g t word = refusal_of t (word_gpi word (granule_place g (address_o
 -- generation is too near to the last one
 abbrev pub worn_answer : Generations → Option Answer
 worn_answer k =
-    option_map (λ z. answer.Worn z (generation_in z k)) (find (λ z. is_worn (generation_in z k)) (size.Two ∷ size.ThirtyTwo ∷ size.FiveTwelve ∷ []))
+    option_map (λ z. answer.Worn z (generation_in z k))
+    (find (λ z. is_worn (generation_in z k)) (size.Two ∷ size.ThirtyTwo ∷ size.FiveTwelve ∷ []))
 
 -- ---- causes
 
@@ -79,7 +81,7 @@ is_decided (answer.Worn z value) = true
 is_decided (answer.Done generations) = true
 is_decided a = false
 
--- Inval and Unknown are the answers of exactly the calls without acts, each by its cause; a call that has acts is
--- answered Perm, Worn or Done
+-- Inval and Unknown are the answers of exactly the calls without acts, each by its cause; a call
+-- that has acts is answered Perm, Worn or Done
 abbrev pub HasCause : GeometryData → Task → Answer → Type 0
 HasCause g t given = MatchOption (idle_answer g t) (is_decided given ≡ true) (λ idle. given ≡ idle)

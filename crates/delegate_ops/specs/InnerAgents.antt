@@ -59,7 +59,13 @@ idle_answers g (t ∷ tasks) = answered_first (idle_answer g t) (idle_answers g 
 
 -- an agent before its first act
 abbrev pub fresh : GeometryData → List Task → AgentData
-fresh g tasks = record { geometry = g; tasks = tasks; answers = idle_answers g tasks; stage = stage.Locking; waited = false }
+fresh g tasks = record {
+  geometry = g;
+  tasks = tasks;
+  answers = idle_answers g tasks;
+  stage = stage.Locking;
+  waited = false;
+}
 
 -- ---- acts
 
@@ -74,8 +80,10 @@ act_at g stage.Locking t = Some (take_act (lock_bit_of g t))
 act_at g stage.Looking t = option_map act.Load (l1_place_of g (address_of t))
 act_at g (stage.Reading z k) t = Some (gen_load_of g z (address_of t))
 act_at g (stage.Splitting z d k) t = next_store d
-act_at g (stage.Changing c k) t = option_map (λ place. act.Store place (changed_word g t c k.word)) (l1_place_of g (address_of t))
-act_at g (stage.Raising c z k) t = Some (gen_raise_of g z (address_of t) (generation_in z k.generations))
+act_at g (stage.Changing c k) t =
+    option_map (λ place. act.Store place (changed_word g t c k.word)) (l1_place_of g (address_of t))
+act_at g (stage.Raising c z k) t =
+    Some (gen_raise_of g z (address_of t) (generation_in z k.generations))
 act_at g (stage.Merging f k) t = fuse.next_of f
 act_at g (stage.Releasing answer) t = Some (release_act (lock_bit_of g t))
 
@@ -94,27 +102,44 @@ abbrev pub after_answer : AgentData → Answer → AgentData
 after_answer a answer = record {
   geometry = a.geometry;
   tasks = a.tasks;
-  answers = (a.answers ++ answer ∷ []) ++ idle_answers a.geometry (drop (length a.answers + 1) a.tasks);
+  answers =
+      (a.answers ++ answer ∷ []) ++ idle_answers a.geometry (drop (length a.answers + 1) a.tasks);
   stage = stage.Locking;
   waited = false;
 }
 
 -- the call under way goes on, or waits
 abbrev pub goes_to : AgentData → Stage → AgentData
-goes_to a s = record { geometry = a.geometry; tasks = a.tasks; answers = a.answers; stage = s; waited = false }
+goes_to a s = record {
+  geometry = a.geometry;
+  tasks = a.tasks;
+  answers = a.answers;
+  stage = s;
+  waited = false;
+}
 
 abbrev pub waits_at : AgentData → AgentData
-waits_at a = record { geometry = a.geometry; tasks = a.tasks; answers = a.answers; stage = a.stage; waited = true }
+waits_at a = record {
+  geometry = a.geometry;
+  tasks = a.tasks;
+  answers = a.answers;
+  stage = a.stage;
+  waited = true;
+}
 
 -- where a transition goes on that has loaded its L1 word and was refused so, if it was
 abbrev pub looked_stage : Option Answer → ℕ → Stage
 looked_stage (Some refused) word = stage.Releasing refused
-looked_stage None word = stage.Reading size.Two (record { word = word; generations = record { two = 0; thirty_two = 0; five_twelve = 0 } })
+looked_stage None word = stage.Reading size.Two (record {
+  word = word;
+  generations = record { two = 0; thirty_two = 0; five_twelve = 0 };
+})
 
 -- where it goes on with all generations loaded, and worn so, if they are
 abbrev pub loaded_stage : GeometryData → Task → Option L1Entry → Kept → Stage
 loaded_stage g t (Some (l1.Contig z v)) k =
-    stage.Splitting z (splitting_of g (address_of t) (number_of (l1_place_of g (address_of t))) z v) k.generations
+    stage.Splitting z (splitting_of g (address_of t) (number_of (l1_place_of g
+    (address_of t))) z v) k.generations
 loaded_stage g t e k = stage.Changing (first_change t) k
 
 abbrev pub read_all : GeometryData → Option Answer → Task → Kept → Stage
@@ -159,7 +184,8 @@ kept_changed g t c k = record { word = changed_word g t c k.word; generations = 
 abbrev pub kept_raised : Size → Kept → Kept
 kept_raised z k = record { word = k.word; generations = raised_at z k.generations }
 
--- where a task goes on after its act at a stage that answered this word, if it neither waits nor ends there
+-- where a task goes on after its act at a stage that answered this word, if it neither waits nor
+-- ends there
 abbrev pub stage_after : GeometryData → Task → Stage → ℕ → Stage
 stage_after g t stage.Locking old = stage.Looking
 stage_after g t stage.Looking old = looked_stage (looked_answer g t old) old
@@ -178,7 +204,8 @@ is_held g t s old = false
 -- the agent after the act of a task at a stage that answered this word
 abbrev pub took_at : AgentData → Task → Stage → ℕ → AgentData
 took_at a t (stage.Releasing answer) old = after_answer a answer
-took_at a t s old = if is_held a.geometry t s old then waits_at a else goes_to a (stage_after a.geometry t s old)
+took_at a t s old =
+    if is_held a.geometry t s old then waits_at a else goes_to a (stage_after a.geometry t s old)
 
 abbrev pub took_under_way : AgentData → Option Task → ℕ → AgentData
 took_under_way a None old = a
@@ -249,9 +276,11 @@ pub record IsMergingOf (g : GeometryData) (pa : ℕ) (f : FuseData) : Type 0 whe
 abbrev pub IsStage : GeometryData → Stage → Option Task → Type 0
 IsStage g s None = s ≡ stage.Locking
 IsStage g (stage.Splitting z d k) (Some t) =
-    IsSplittingOf g (address_of t) z d × IsChangeOf t (first_change t) × HasRoomFor (raises_from (first_change t)) k
+    IsSplittingOf g (address_of t) z d × IsChangeOf t (first_change t)
+    × HasRoomFor (raises_from (first_change t)) k
 IsStage g (stage.Changing c k) (Some t) = IsChangeOf t c × HasRoomFor (raises_from c) k.generations
-IsStage g (stage.Raising c size.Two k) (Some t) = IsChangeOf t c × HasRoomFor (raises_from c) k.generations
+IsStage g (stage.Raising c size.Two k) (Some t) =
+    IsChangeOf t c × HasRoomFor (raises_from c) k.generations
 IsStage g (stage.Raising c size.ThirtyTwo k) (Some t) =
     IsChangeOf t c × HasRoom k.generations (raises_after c) (raises_from c) (raises_from c)
 IsStage g (stage.Raising c size.FiveTwelve k) (Some t) =

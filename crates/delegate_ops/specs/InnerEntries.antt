@@ -23,7 +23,9 @@ known_entries g c k t (Some answer) = entries_of g c k t answer
 -- the entries that the next act of a task makes at a stage, where it answers this word
 abbrev pub made_at : GeometryData → ℕ → ℕ → Stage → Option Task → ℕ → List Entry
 made_at g c k stage.Looking (Some t) old = known_entries g c k t (looked_answer g t old)
-made_at g c k (stage.Reading size.FiveTwelve kept) (Some t) old = known_entries g c k t (worn_answer (with_generation size.FiveTwelve old kept.generations))
+made_at g c k (stage.Reading size.FiveTwelve kept) (Some t) old =
+    known_entries g c k t
+    (worn_answer (with_generation size.FiveTwelve old kept.generations))
 made_at g c k (stage.Changing ch kept) (Some t) old = change_entry g c k t ch ∷ []
 made_at g c k (stage.Raising ch size.FiveTwelve kept) (Some t) old = completion g c k t ∷ []
 made_at g c k s t old = []
@@ -31,13 +33,15 @@ made_at g c k s t old = []
 -- the entries of a call before a change: only the last change of an undelegate has some
 abbrev pub entries_before : GeometryData → ℕ → ℕ → Task → Change → List Entry
 entries_before g c k (task.Undelegate pa source) change.Last =
-    change_entry g c k (task.Undelegate pa source) change.First ∷ completion g c k (task.Undelegate pa source) ∷ []
+    change_entry g c k (task.Undelegate pa source) change.First
+    ∷ completion g c k (task.Undelegate pa source) ∷ []
 entries_before g c k t ch = []
 
 -- the entries that the call under way has made at a stage
 abbrev pub entries_at : GeometryData → ℕ → ℕ → Stage → Option Task → List Entry
 entries_at g c k (stage.Changing ch kept) (Some t) = entries_before g c k t ch
-entries_at g c k (stage.Raising ch z kept) (Some t) = entries_before g c k t ch ++ change_entry g c k t ch ∷ []
+entries_at g c k (stage.Raising ch z kept) (Some t) =
+    entries_before g c k t ch ++ change_entry g c k t ch ∷ []
 entries_at g c k (stage.Merging f kept) (Some t) = entries_of g c k t (answer.Done kept)
 entries_at g c k (stage.Releasing given) (Some t) = entries_of g c k t given
 entries_at g c k s t = []

@@ -19,16 +19,18 @@ use Rattle.delegate_ops.specs.declared.stage.Stage.{Stage}
 use Rattle.delegate_ops.specs.declared.stage.Stage.TheVariants as stage
 use Rattle.delegate_ops.specs.Deciding.{address_of, looked_answer}
 use Rattle.delegate_ops.specs.Changing.{changed_word, raised_at, raised}
-use Rattle.delegate_ops.specs.Script.{CallEvent, Step, plain, plain_step, plain_event, IsWait, TakesLock, Looks, Changes, Decides, AreCallEvents, completion, raises, change_and_raises, kept_after, kept_split, transition_steps, all_steps, last_word, last_generations}
+use Rattle.delegate_ops.specs.Script.{CallEvent, Step, plain, plain_step, plain_event, IsWait, TakesLock, Looks, Changes, Decides, AreCallEvents, last_raise, raises, change_and_raises, kept_after, kept_split, transition_steps, all_steps, last_word, last_generations}
 use Rattle.delegate_ops.specs.InnerAgents.{AgentData, task_of}
 
 -- the loads of generations before that of this size
 abbrev pub reads_before : GeometryData → ℕ → Size → Generations → List CallEvent
 reads_before g pa size.Two k = []
 reads_before g pa size.ThirtyTwo k = plain (gen_load_of g size.Two pa) k.two ∷ []
-reads_before g pa size.FiveTwelve k = plain (gen_load_of g size.Two pa) k.two ∷ plain (gen_load_of g size.ThirtyTwo pa) k.thirty_two ∷ []
+reads_before g pa size.FiveTwelve k = plain (gen_load_of g size.Two pa) k.two
+    ∷ plain (gen_load_of g size.ThirtyTwo pa) k.thirty_two ∷ []
 
-pub record IsReading (g : GeometryData) (t : Task) (z : Size) (k : Kept) (events : List CallEvent) : Type 0 where
+pub record IsReading (g : GeometryData) (t : Task) (z : Size) (k : Kept) (events : List CallEvent)
+    : Type 0 where
   pub place : ℕ
   pub looking : List CallEvent
   pub looked : Looks g t place k.word [] looking
@@ -40,15 +42,22 @@ abbrev pub raises_at : GeometryData → ℕ → ℕ → Task → Size → Genera
 raises_at g c n t size.Two k = raises g c n t k
 raises_at g c n t size.ThirtyTwo k =
     plain_step (gen_raise_of g size.ThirtyTwo (address_of t) k.thirty_two)
-    ∷ record { act = gen_raise_of g size.FiveTwelve (address_of t) k.five_twelve; made = completion g c n t ∷ [] } ∷ []
-raises_at g c n t size.FiveTwelve k = record { act = gen_raise_of g size.FiveTwelve (address_of t) k.five_twelve; made = completion g c n t ∷ [] } ∷ []
+    ∷ last_raise g c n t k ∷ []
+raises_at g c n t size.FiveTwelve k = last_raise g c n t k ∷ []
 
 abbrev pub kept_raised_at : Size → Kept → Kept
 kept_raised_at size.Two k = record { word = k.word; generations = raised k.generations }
-kept_raised_at size.ThirtyTwo k = record { word = k.word; generations = raised_at size.FiveTwelve (raised_at size.ThirtyTwo k.generations) }
-kept_raised_at size.FiveTwelve k = record { word = k.word; generations = raised_at size.FiveTwelve k.generations }
+kept_raised_at size.ThirtyTwo k = record {
+  word = k.word;
+  generations = raised_at size.FiveTwelve (raised_at size.ThirtyTwo k.generations);
+}
+kept_raised_at size.FiveTwelve k = record {
+  word = k.word;
+  generations = raised_at size.FiveTwelve k.generations;
+}
 
--- the steps that are still to come after a change and its raises, and what they leave of generations and word
+-- the steps that are still to come after a change and its raises, and what they leave of
+-- generations and word
 abbrev pub steps_after : GeometryData → ℕ → ℕ → Task → ℕ → Change → Kept → List Step
 steps_after g c n t place change.First k = change_and_raises g c n t place change.Last k
 steps_after g c n t place change.Last k = []
@@ -61,9 +70,10 @@ abbrev pub word_after_change : GeometryData → Task → Change → ℕ → ℕ
 word_after_change g t change.First word = changed_word g t change.Last word
 word_after_change g t change.Last word = word
 
--- a transition that has made its loads and the first of its other steps up to the last raise, so that these are
--- still to come
-pub record IsChanging (g : GeometryData) (c n : ℕ) (t : Task) (place : ℕ) (to_come : List Step) (last : Generations) (word : ℕ) (events : List CallEvent) : Type 0 where
+-- a transition that has made its loads and the first of its other steps up to the last raise, so
+-- that these are still to come
+pub record IsChanging (g : GeometryData) (c n : ℕ) (t : Task) (place : ℕ) (to_come : List Step)
+    (last : Generations) (word : ℕ) (events : List CallEvent) : Type 0 where
   pub kept : Kept
   pub made : List Step
   pub changes : Changes g t place kept made events
@@ -72,7 +82,8 @@ pub record IsChanging (g : GeometryData) (c n : ℕ) (t : Task) (place : ℕ) (t
   pub word_is : word ≡ last_word g t (kept_split kept).word
 
 -- a transition that has changed its granule, and made some acts of merging
-pub record IsMergingAt (g : GeometryData) (c n : ℕ) (t : Task) (f : FuseData) (last : Generations) (events : List CallEvent) : Type 0 where
+pub record IsMergingAt (g : GeometryData) (c n : ℕ) (t : Task) (f : FuseData) (last : Generations)
+    (events : List CallEvent) : Type 0 where
   pub place : ℕ
   pub word : ℕ
   pub index : ℕ
@@ -99,7 +110,8 @@ IsPrefix g c n (stage.Changing ch k) (Some t) events =
     (place : ℕ) × (l1_place_of g (address_of t) ≡ Some place)
     × IsChanging g c n t place
     (change_and_raises g c n t place ch k ++ steps_after g c n t place ch (kept_after g t ch k))
-    (generations_after ch (raised k.generations)) (word_after_change g t ch (changed_word g t ch k.word)) events
+    (generations_after ch (raised k.generations)) (word_after_change g t ch
+    (changed_word g t ch k.word)) events
 IsPrefix g c n (stage.Raising ch z k) (Some t) events =
     (place : ℕ) × (l1_place_of g (address_of t) ≡ Some place)
     × IsChanging g c n t place

@@ -66,7 +66,8 @@ act_by p stage.Looking t = Some (act.Load p.word)
 act_by p (stage.Reading z k) t = Some (act.Load (generation_place p z))
 act_by p (stage.Splitting z d k) t = next_store d
 act_by p (stage.Changing c k) t = Some (act.Store p.word (word_after p t c k.word))
-act_by p (stage.Raising c z k) t = Some (act.Store (generation_place p z) (generation_in z k.generations + 1))
+act_by p (stage.Raising c z k) t =
+    Some (act.Store (generation_place p z) (generation_in z k.generations + 1))
 act_by p (stage.Merging f k) t = fuse.next_of f
 act_by p (stage.Releasing answer) t = Some (release_act p.lock)
 
@@ -92,7 +93,8 @@ goes_by d s = record { task = d.task; places = d.places; stage = s; waited = fal
 abbrev pub unended : GeometryData → TransitionData → ℕ → Option Answer → TransitionData
 unended g d old (Some answer) = d
 unended g d old None =
-    if is_held_by d.places d.stage old then waits_by d else goes_by d (stage_after g d.task d.stage old)
+    if is_held_by d.places d.stage old then waits_by d
+    else goes_by d (stage_after g d.task d.stage old)
 
 -- after an act that answered this word; one that is answered is left as it was
 abbrev pub after_by : GeometryData → TransitionData → ℕ → TransitionData

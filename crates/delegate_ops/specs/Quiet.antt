@@ -10,7 +10,8 @@ use Rattle.history.specs.declared.call.Task.{Task}
 use Rattle.delegate_ops.specs.Deciding.{address_of}
 use Rattle.delegate_ops.specs.Script.{lock_bit_of}
 
--- the act loads the task's own L1 word or one of its three generations, or takes or releases its lock
+-- the act loads the task's own L1 word or one of its three generations, or takes or releases its
+-- lock
 abbrev pub IsQuiet : GeometryData → Task → Act → Type 0
 IsQuiet g t made =
     ((place : ℕ) × (l1_place_of g (address_of t) ≡ Some place) × (made ≡ act.Load place))

@@ -1,6 +1,6 @@
--- The script of a transition: its acts in their order, each with the word that it answered and the entries
--- that it makes in the history (TF-A, gpt_delegate_pas and gpt_undelegate_pas). An agent is shown to follow
--- it. Cleaning and the barrier are not in it yet.
+-- The script of a transition: its acts in their order, each with the word that it answered and the
+-- entries that it makes in the history (TF-A, gpt_delegate_pas and gpt_undelegate_pas). An agent is
+-- shown to follow it. Cleaning and the barrier are not in it yet.
 use Rattle.std.specs.Prelude.{◌≡◌, ◌≢◌, ◌⊎◌, ℕ, ◌+◌, ◌/◌, false, true, List, [], ◌∷◌, ◌++◌, length, map, slice_get, Option, Some, None, MatchOption}
 use Rattle.std.specs.List.{All}
 use Rattle.std.specs.Int.Bits.{bit_and}
@@ -68,7 +68,8 @@ granule_of_task g t = address_of t / granule_bytes g.setup
 
 -- the lock was tried and wasn't free
 abbrev pub IsWait : GeometryData → Task → CallEvent → Type 0
-IsWait g t e = (e.act ≡ take_act (lock_bit_of g t)) × (bit_and e.old (lock_bit_of g t).mask ≢ 0) × (e.made ≡ [])
+IsWait g t e = (e.act ≡ take_act (lock_bit_of g t)) × (bit_and e.old (lock_bit_of g t).mask ≢ 0)
+    × (e.made ≡ [])
 
 -- first, the lock is tried until it was free
 pub record TakesLock (g : GeometryData) (t : Task) (events : List CallEvent) : Type 0 where
@@ -79,7 +80,8 @@ pub record TakesLock (g : GeometryData) (t : Task) (events : List CallEvent) : T
   pub parts : events ≡ waits ++ plain (take_act (lock_bit_of g t)) free ∷ []
 
 -- second, the L1 word is loaded
-pub record Looks (g : GeometryData) (t : Task) (place word : ℕ) (made : List Entry) (events : List CallEvent) : Type 0 where
+pub record Looks (g : GeometryData) (t : Task) (place word : ℕ) (made : List Entry)
+    (events : List CallEvent) : Type 0 where
   pub locking : List CallEvent
   pub locked : TakesLock g t locking
   pub there : l1_place_of g (address_of t) ≡ Some place
@@ -91,40 +93,56 @@ reads g pa k made =
     plain (gen_load_of g size.Two pa) k.two ∷ plain (gen_load_of g size.ThirtyTwo pa) k.thirty_two
     ∷ record { act = gen_load_of g size.FiveTwelve pa; old = k.five_twelve; made = made } ∷ []
 
-pub record Reads (g : GeometryData) (t : Task) (place word : ℕ) (k : Generations) (made : List Entry) (events : List CallEvent) : Type 0 where
+pub record Reads (g : GeometryData) (t : Task) (place word : ℕ) (k : Generations)
+    (made : List Entry) (events : List CallEvent) : Type 0 where
   pub looking : List CallEvent
   pub looked : Looks g t place word [] looking
   pub needed : looked_answer g t word ≡ None
   pub parts : events ≡ looking ++ reads g (address_of t) k made
 
--- fourth, where none is worn, a contiguous block is split; fifth, the granule is changed, and after each change
--- the generations are raised: the third raise completes the change
+-- fourth, where none is worn, a contiguous block is split; fifth, the granule is changed, and after
+-- each change the generations are raised: the third raise completes the change
 abbrev pub change_entry : GeometryData → ℕ → ℕ → Task → Change → Entry
 change_entry g c n t ch = entry.Changed c n (granule_of_task g t) (from_of t ch) (to_of t ch)
 
 abbrev pub completion : GeometryData → ℕ → ℕ → Task → Entry
 completion g c n t = entry.Settled c n (granule_of_task g t)
 
+abbrev pub last_raise : GeometryData → ℕ → ℕ → Task → Generations → Step
+last_raise g c n t k = record {
+  act = gen_raise_of g size.FiveTwelve (address_of t) k.five_twelve;
+  made = completion g c n t ∷ [];
+}
+
 abbrev pub raises : GeometryData → ℕ → ℕ → Task → Generations → List Step
 raises g c n t k =
     plain_step (gen_raise_of g size.Two (address_of t) k.two)
     ∷ plain_step (gen_raise_of g size.ThirtyTwo (address_of t) k.thirty_two)
-    ∷ record { act = gen_raise_of g size.FiveTwelve (address_of t) k.five_twelve; made = completion g c n t ∷ [] } ∷ []
+    ∷ last_raise g c n t k ∷ []
 
 abbrev pub change_and_raises : GeometryData → ℕ → ℕ → Task → ℕ → Change → Kept → List Step
 change_and_raises g c n t place ch k =
-    record { act = act.Store place (changed_word g t ch k.word); made = change_entry g c n t ch ∷ [] } ∷ raises g c n t k.generations
+    record {
+      act = act.Store place (changed_word g t ch k.word);
+      made = change_entry g c n t ch ∷ [];
+    }
+    ∷ raises g c n t k.generations
 
 -- what is kept after a change and its raises
 abbrev pub kept_after : GeometryData → Task → Change → Kept → Kept
-kept_after g t ch k = record { word = changed_word g t ch k.word; generations = raised k.generations }
+kept_after g t ch k = record {
+  word = changed_word g t ch k.word;
+  generations = raised k.generations;
+}
 
 -- a delegate makes its last change alone, an undelegate goes through no access first
 abbrev pub transition_steps : GeometryData → ℕ → ℕ → Task → ℕ → Kept → List Step
-transition_steps g c n (task.Delegate pa source) place k = change_and_raises g c n (task.Delegate pa source) place change.Last k
+transition_steps g c n (task.Delegate pa source) place k =
+    change_and_raises g c n (task.Delegate pa source) place change.Last k
 transition_steps g c n (task.Undelegate pa source) place k =
     change_and_raises g c n (task.Undelegate pa source) place change.First k
-    ++ change_and_raises g c n (task.Undelegate pa source) place change.Last (kept_after g (task.Undelegate pa source) change.First k)
+    ++ change_and_raises g c n (task.Undelegate pa source) place change.Last
+    (kept_after g (task.Undelegate pa source) change.First k)
 transition_steps g c n t place k = []
 
 -- what is kept after the splitting, and all steps from it to the last raise
@@ -155,14 +173,16 @@ abbrev pub entries_of : GeometryData → ℕ → ℕ → Task → Answer → Lis
 entries_of g c n t given = call_entries (granule_bytes g.setup) c n t given
 
 -- it was refused by the loaded word, and this load makes its entry
-pub record IsRefused (g : GeometryData) (c n : ℕ) (t : Task) (given : Answer) (events : List CallEvent) : Type 0 where
+pub record IsRefused (g : GeometryData) (c n : ℕ) (t : Task) (given : Answer)
+    (events : List CallEvent) : Type 0 where
   pub place : ℕ
   pub word : ℕ
   pub looked : Looks g t place word (entries_of g c n t given) events
   pub refused : looked_answer g t word ≡ Some given
 
 -- it was refused by a loaded generation, and the third load makes its entry
-pub record IsWornOut (g : GeometryData) (c n : ℕ) (t : Task) (given : Answer) (events : List CallEvent) : Type 0 where
+pub record IsWornOut (g : GeometryData) (c n : ℕ) (t : Task) (given : Answer)
+    (events : List CallEvent) : Type 0 where
   pub place : ℕ
   pub word : ℕ
   pub generations : Generations
@@ -170,7 +190,8 @@ pub record IsWornOut (g : GeometryData) (c n : ℕ) (t : Task) (given : Answer) 
   pub worn : worn_answer generations ≡ Some given
 
 -- it goes on to change its granule, and has made these steps after its loads
-pub record Changes (g : GeometryData) (t : Task) (place : ℕ) (k : Kept) (made : List Step) (events : List CallEvent) : Type 0 where
+pub record Changes (g : GeometryData) (t : Task) (place : ℕ) (k : Kept) (made : List Step)
+    (events : List CallEvent) : Type 0 where
   pub reading : List CallEvent
   pub changing : List CallEvent
   pub read : Reads g t place k.word k.generations [] reading
@@ -188,7 +209,8 @@ pub record Merges (g : GeometryData) (t : Task) (word : ℕ) (events : List Call
   pub parts : events ≡ map plain_event merging
 
 -- it is done
-pub record IsDone (g : GeometryData) (c n : ℕ) (t : Task) (given : Answer) (events : List CallEvent) : Type 0 where
+pub record IsDone (g : GeometryData) (c n : ℕ) (t : Task) (given : Answer) (events : List CallEvent)
+    : Type 0 where
   pub place : ℕ
   pub kept : Kept
   pub changing : List CallEvent
@@ -203,7 +225,8 @@ Decides g c n t given events =
     IsRefused g c n t given events ⊎ (IsWornOut g c n t given events ⊎ IsDone g c n t given events)
 
 -- last, the lock is released
-pub record Releases (g : GeometryData) (c n : ℕ) (t : Task) (given : Answer) (events : List CallEvent) : Type 0 where
+pub record Releases (g : GeometryData) (c n : ℕ) (t : Task) (given : Answer)
+    (events : List CallEvent) : Type 0 where
   pub deciding : List CallEvent
   pub left : ℕ
   pub decided : Decides g c n t given deciding
@@ -224,19 +247,23 @@ AreCallEvents g c n (t ∷ tasks) (a ∷ answers) events =
     (own : List CallEvent) × (rest : List CallEvent) × (events ≡ own ++ rest)
     × IsCall g c n t (idle_answer g t) a own × AreCallEvents g c (n + 1) tasks answers rest
 
--- The call under way has acts, and its events are a proper prefix of those that the script allows it.
-pub record IsUnderWay (g : GeometryData) (c n : ℕ) (t : Task) (events : List CallEvent) : Type 0 where
+-- The call under way has acts, and its events are a proper prefix of those that the script allows
+-- it.
+pub record IsUnderWay (g : GeometryData) (c n : ℕ) (t : Task) (events : List CallEvent)
+    : Type 0 where
   pub acts : idle_answer g t ≡ None
   pub rest : List CallEvent
   pub given : Answer
   pub whole : Releases g c n t given (events ++ rest)
   pub proper : rest ≢ []
 
--- An agent that is caller c follows its script: its events are those of its answered calls, whole and in
--- their order, and then those of the next call, if there is one.
-pub record Follows (g : GeometryData) (c : ℕ) (tasks : List Task) (answers : List Answer) (events : List CallEvent) : Type 0 where
+-- An agent that is caller c follows its script: its events are those of its answered calls, whole
+-- and in their order, and then those of the next call, if there is one.
+pub record Follows (g : GeometryData) (c : ℕ) (tasks : List Task) (answers : List Answer)
+    (events : List CallEvent) : Type 0 where
   pub calls : List CallEvent
   pub last : List CallEvent
   pub parts : events ≡ calls ++ last
   pub answered : AreCallEvents g c 0 tasks answers calls
-  pub under_way : MatchOption (slice_get tasks (length answers)) (last ≡ []) (λ t. IsUnderWay g c (length answers) t last)
+  pub under_way : MatchOption (slice_get tasks (length answers)) (last
+      ≡ []) (λ t. IsUnderWay g c (length answers) t last)

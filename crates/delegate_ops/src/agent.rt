@@ -1,4 +1,4 @@
-ghost use Rattle.std.specs.Prelude.{◌≡◌, ◌-◌, ◌≤◌, ◌++◌, IfOk, IfSome, IsSome, is_some, not, None, length, drop, false, slice_get, vec_capacity};
+ghost use Rattle.std.specs.Prelude.{◌≡◌, ◌-◌, ◌≤◌, ◌++◌, IfOk, IfSome, IsSome, IsTrue, is_some, not, None, length, drop, false, slice_get, vec_capacity};
 ghost use Rattle.std.specs.List.{All};
 ghost use Rattle.std.specs.Option.{option_map};
 ghost use Rattle.delegate_ops.specs.InnerAgents.{is_look, task_of, fresh, idle_answers, has_ended, next_of, after_answer, took_of, HasActs, IsReadable};
@@ -50,7 +50,8 @@ impl Model for Agent {
 fn answer_idle(geometry: &Geometry, tasks: &[Task], answers: &mut Vec<Answer>)
     requires room { length tasks.now ≤ vec_capacity answers.old }
     requires within { length answers.old.items ≤ length tasks.now }
-    ensures items { answers.new.items ≡ answers.old.items ++ idle_answers geometry.now (drop (length answers.old.items) tasks.now) }
+    ensures items { answers.new.items ≡ answers.old.items
+        ++ idle_answers geometry.now (drop (length answers.old.items) tasks.now) }
     ensures acts { HasActs geometry.now (slice_get tasks.now (length answers.new.items)) }
     ensures within { length answers.new.items ≤ length tasks.now }
     ensures capacity { vec_capacity answers.new ≡ vec_capacity answers.old }
@@ -67,7 +68,8 @@ fn answer_idle(geometry: &Geometry, tasks: &[Task], answers: &mut Vec<Answer>)
 fn begin(geometry: &Geometry, tasks: &[Task], answers: &[Answer]) -> Option<Transition>
     requires acts { HasActs geometry.now (slice_get tasks.now (length answers.now)) }
     requires no_looks { All (λ t. is_look t ≡ false) tasks.now }
-    ensures value { result ≡ option_map (begun geometry.now) (slice_get tasks.now (length answers.now)) }
+    ensures value { result
+        ≡ option_map (begun geometry.now) (slice_get tasks.now (length answers.now)) }
     ensures under_way { IsUnderWay geometry.now (slice_get tasks.now (length answers.now)) result }
 {
     match tasks.get(answers.len()) {
@@ -166,6 +168,9 @@ impl Agent {
     pub fn may_take(&self, old: u64) -> bool
         ensures { IsTrue result → IsReadable self.now.stage old }
     {
-        !matches!(self.stage, Stage::Looking) || gpt_descriptors::decode_l1(old).is_some()
+        match &self.transition {
+            Some(transition) => transition.may_take(old),
+            None => true,
+        }
     }
 }

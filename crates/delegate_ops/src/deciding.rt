@@ -17,7 +17,8 @@ pub fn address_of(task: Task) -> u64
     }
 }
 
-/// Whether the address isn't aligned to a granule, isn't in the protected space, or has an L0 block.
+/// Whether the address isn't aligned to a granule, isn't in the protected space, or has an L0
+/// block.
 fn is_unusable(geometry: &Geometry, pa: u64) -> bool
     ensures { result ≡ is_unusable geometry.now pa }
 {
@@ -52,8 +53,8 @@ fn is_needed(task: Task, found: Gpi) -> bool
     }
 }
 
-/// What a transition is answered that loads this L1 word under the lock, in which its granule has this field,
-/// or `None` where it finds the GPI that it needs.
+/// What a transition is answered that loads this L1 word under the lock, in which its granule has
+/// this field, or `None` where it finds the GPI that it needs.
 pub fn looked_answer(task: Task, field: u64, word: u64) -> Option<Answer>
     requires descriptor { IsTrue (is_some (l1_entry word)) }
     requires field { field < 16 }
@@ -67,8 +68,8 @@ pub fn looked_answer(task: Task, field: u64, word: u64) -> Option<Answer>
     }
 }
 
-/// What a transition is answered that loads these generations under the lock, or `None` where none of
-/// them is worn.
+/// What a transition is answered that loads these generations under the lock, or `None` where none
+/// of them is worn.
 pub fn worn_answer(generations: Generations) -> Option<Answer>
     ensures { result ≡ worn_answer generations }
 {

@@ -7,11 +7,12 @@ ghost use Rattle.delegate_ops.specs.Script.{CallEvent, Follows};
 ghost use Rattle.delegate_ops.specs.InnerScript.{HasWalked};
 ghost use Rattle.delegate_ops.specs.InnerEntries.{made_at};
 
-/// The law of the script: an agent that is caller `c` follows its script from its beginning, and each
-/// next act, whatever it answers, takes it one event further, with the entries that the script says.
-/// Where it has no next act, each task is answered.
+/// The law of the script: an agent that is caller `c` follows its script from its beginning, and
+/// each next act, whatever it answers, takes it one event further, with the entries that the script
+/// says. Where it has no next act, each task is answered.
 pub fn agents_follow_their_script()
-    ensures start { (g : GeometryData) (tasks : List Task) (c : ℕ) → HasWalked c (fresh g tasks) [] }
+    ensures start { (g : GeometryData) (tasks : List Task) (c : ℕ)
+        → HasWalked c (fresh g tasks) [] }
     ensures step { (c : ℕ) (a : AgentData) (events : List CallEvent) (next : Act) (old : ℕ)
         → IsAgent a → HasWalked c a events → next_of a ≡ Some next
         → HasWalked c (took_of a old) (events ++ record {

@@ -14,8 +14,8 @@ pub enum Change {
     Last,
 }
 
-/// What a transition keeps while it holds its lock: the L1 word and the generations around the granule
-/// as it has last loaded or written them. A generation that isn't loaded yet is kept as 0.
+/// What a transition keeps while it holds its lock: the L1 word and the generations around the
+/// granule as it has last loaded or written them. A generation that isn't loaded yet is kept as 0.
 #[derive(Clone, Copy, Debug, PartialEq, Eq)]
 pub struct Kept {
     pub word: u64,
@@ -25,7 +25,10 @@ pub struct Kept {
 impl Kept {
     /// The loaded L1 word, and no generation yet.
     pub fn new(word: u64) -> Kept
-        ensures { result ≡ record { word = word; generations = record { two = 0; thirty_two = 0; five_twelve = 0 } } }
+        ensures { result ≡ record {
+          word = word;
+          generations = record { two = 0; thirty_two = 0; five_twelve = 0 };
+        } }
     {
         Kept {
             word,

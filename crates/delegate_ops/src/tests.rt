@@ -10,6 +10,11 @@ const SECURE: u64 = 0x8888_8888_8888_8888;
 
 const NON_SECURE: u64 = 0x9999_9999_9999_9999;
 
+/// Words of contiguous 2 MB and 32 MB, Non-secure.
+const TWO_MB: u64 = 0x191;
+
+const THIRTY_TWO_MB: u64 = 0x291;
+
 /// The acts of a call at address 0: its lock is bit 0 of the first word, its L1 word comes after
 /// 2 locks, 2048, 128 and 8 generations and one duty word.
 const LOCK: Act = Act::Or(0, 1);
@@ -21,13 +26,6 @@ const UNLOCK: Act = Act::And(0, !1);
 const DELEGATE: Task = Task::Delegate(0, Source::Realm);
 
 const UNDELEGATE: Task = Task::Undelegate(0, Source::Realm);
-
-/// The loads of the generations around address 0, and what they answer at the start.
-const READ: [(Act, u64); 3] = [
-    (Act::Load(2), 0),
-    (Act::Load(2050), 0),
-    (Act::Load(2178), 0),
-];
 
 /// An address with lock 1, L1 word 0x2245 and field 3 of it, and with the generations 0x112 of 2 MB,
 /// 0x11 of 32 MB and 1 of 512 MB.
@@ -72,6 +70,37 @@ const UNDELEGATE_INSIDE: [(Act, u64); 14] = [
     (Act::And(0, !2), 2),
 ];
 
+/// Each act up to merging of its undelegate by realm, where its other fifteen granules are
+/// Non-secure and generations start at 0.
+const UNDELEGATE_REALM: [(Act, u64); 13] = [
+    (Act::Or(0, 2), 0),
+    (Act::Load(10960), 0x9999_9999_9999_b999),
+    (Act::Load(276), 0),
+    (Act::Load(2067), 0),
+    (Act::Load(2179), 0),
+    (Act::Store(10960, 0x9999_9999_9999_0999), 0),
+    (Act::Store(276, 1), 0),
+    (Act::Store(2067, 1), 0),
+    (Act::Store(2179, 1), 0),
+    (Act::Store(10960, NON_SECURE), 0),
+    (Act::Store(276, 2), 0),
+    (Act::Store(2067, 2), 0),
+    (Act::Store(2179, 2), 0),
+];
+
+/// The generations that this undelegate gives.
+const TWICE_RAISED: Generations = Generations {
+    two: 2,
+    thirty_two: 2,
+    five_twelve: 2,
+};
+
+/// The first words of the fifteen other 2 MB of its 32 MB, which begin at word 10891.
+const OTHER_2_MB: [usize; 15] = [
+    10891, 10923, 10987, 11019, 11051, 11083, 11115, 11147, 11179, 11211, 11243, 11275, 11307,
+    11339, 11371,
+];
+
 /// Generations around address 0, the first size that is worn, and its value.
 const WORN: [([(usize, u64); 3], Size, u64); 3] = [
     (
@@ -103,9 +132,10 @@ const WORN: [([(usize, u64); 3], Size, u64); 3] = [
     ),
 ];
 
-/// 4 GB with a table of the first gigabyte alone, and a lock for each 512 MB.
-fn one_table() -> Result<Geometry, Fail> {
-    let setup = Setup::new(4, MaxBlock::FiveTwelve, 1, 0, 8, 1, 0x8000_0000).ok_or("refused")?;
+/// 4 GB with a table of the first gigabyte alone, a lock for each 512 MB, and contiguous entries up
+/// to this size.
+fn one_table(max: MaxBlock) -> Result<Geometry, Fail> {
+    let setup = Setup::new(4, max, 1, 0, 8, 1, 0x8000_0000).ok_or("refused")?;
     let l0 = [0x8000_0003, 0xf1, 0xf1, 0xf1];
     if !l0_good(&setup, l0.as_slice()) {
         return Err("a bad table")?;
@@ -115,7 +145,7 @@ fn one_table() -> Result<Geometry, Fail> {
 
 /// The words before the first act, each L1 word this one.
 fn started(alloc: Global, word: u64) -> Result<PlainWords, Fail> {
-    let geometry = one_table()?;
+    let geometry = one_table(MaxBlock::FiveTwelve)?;
     let count = (geometry.l1_tables() * geometry.setup().table_words()) as usize;
     let mut l1 = Vec::new(alloc);
     l1.resize(count, word)?;
@@ -167,7 +197,7 @@ fn two_calls_at_a_secure_granule_take_six_acts(rt: HostRuntime) -> Result<(), Fa
     ]?;
     let before = started(rt.alloc(), SECURE)?;
     let mut words = started(rt.alloc(), SECURE)?;
-    let mut agent = Agent::new(rt.alloc(), one_table()?, tasks)?;
+    let mut agent = Agent::new(rt.alloc(), one_table(MaxBlock::FiveTwelve)?, tasks)?;
     assert_eq!(rt; agent.answers(), [Answer::Inval, Answer::Inval].as_slice());
     assert_eq!(rt; agent.left(), 2);
 
@@ -206,7 +236,11 @@ fn two_calls_at_a_secure_granule_take_six_acts(rt: HostRuntime) -> Result<(), Fa
 #[test]
 fn an_agent_waits_for_a_lock_that_is_held(rt: HostRuntime) -> Result<(), Fail> {
     let mut words = started(rt.alloc(), SECURE)?;
-    let mut agent = Agent::new(rt.alloc(), one_table()?, vec![in rt.alloc(); DELEGATE]?)?;
+    let mut agent = Agent::new(
+        rt.alloc(),
+        one_table(MaxBlock::FiveTwelve)?,
+        vec![in rt.alloc(); DELEGATE]?,
+    )?;
 
     // The locks of the first two blocks are held.
     assert_eq!(rt; make(&mut words, Act::Or(0, 0b11)), Some(0));
@@ -232,7 +266,7 @@ fn a_delegate_changes_its_granule_once(rt: HostRuntime) -> Result<(), Fail> {
     let mut words = started(rt.alloc(), NON_SECURE)?;
     set(&mut words, INSIDE_GENERATIONS.as_slice());
     let tasks = vec![in rt.alloc(); Task::Delegate(INSIDE, Source::Realm)]?;
-    let mut agent = Agent::new(rt.alloc(), one_table()?, tasks)?;
+    let mut agent = Agent::new(rt.alloc(), one_table(MaxBlock::FiveTwelve)?, tasks)?;
     for (act, old) in DELEGATE_INSIDE {
         assert_eq!(rt; step(&mut agent, &mut words), Some((act, old)));
     }
@@ -251,7 +285,7 @@ fn an_undelegate_changes_its_granule_twice(rt: HostRuntime) -> Result<(), Fail> 
     let mut words = started(rt.alloc(), SECURE)?;
     set(&mut words, INSIDE_GENERATIONS.as_slice());
     let tasks = vec![in rt.alloc(); Task::Undelegate(INSIDE, Source::Secure)]?;
-    let mut agent = Agent::new(rt.alloc(), one_table()?, tasks)?;
+    let mut agent = Agent::new(rt.alloc(), one_table(MaxBlock::FiveTwelve)?, tasks)?;
     for (act, old) in UNDELEGATE_INSIDE {
         assert_eq!(rt; step(&mut agent, &mut words), Some((act, old)));
     }
@@ -270,7 +304,11 @@ fn a_worn_generation_is_given_with_its_first_size(rt: HostRuntime) -> Result<(),
     for (generations, size, value) in WORN {
         let mut words = started(rt.alloc(), NON_SECURE)?;
         set(&mut words, generations.as_slice());
-        let mut agent = Agent::new(rt.alloc(), one_table()?, vec![in rt.alloc(); DELEGATE]?)?;
+        let mut agent = Agent::new(
+            rt.alloc(),
+            one_table(MaxBlock::FiveTwelve)?,
+            vec![in rt.alloc(); DELEGATE]?,
+        )?;
         for (act, old) in [(LOCK, 0), (LOOK, NON_SECURE)] {
             assert_eq!(rt; step(&mut agent, &mut words), Some((act, old)));
         }
@@ -285,24 +323,197 @@ fn a_worn_generation_is_given_with_its_first_size(rt: HostRuntime) -> Result<(),
 }
 
 #[test]
-fn a_call_that_finds_a_contiguous_entry_releases_its_lock_and_stops(
-    rt: HostRuntime,
-) -> Result<(), Fail> {
-    // An entry of 2 MB, Non-secure.
-    let mut words = started(rt.alloc(), 0x191)?;
-    let mut agent = Agent::new(rt.alloc(), one_table()?, vec![in rt.alloc(); DELEGATE]?)?;
-    for (act, old) in [(LOCK, 0), (LOOK, 0x191)] {
+fn a_delegate_splits_its_2_mb_first(rt: HostRuntime) -> Result<(), Fail> {
+    let mut words = started(rt.alloc(), TWO_MB)?;
+    set(&mut words, INSIDE_GENERATIONS.as_slice());
+    let tasks = vec![in rt.alloc(); Task::Delegate(INSIDE, Source::Realm)]?;
+    let mut agent = Agent::new(rt.alloc(), one_table(MaxBlock::Two)?, tasks)?;
+    for (act, old) in [
+        (Act::Or(0, 2), 0),
+        (Act::Load(10960), TWO_MB),
+        (Act::Load(276), 0x7fff_ffff_ffff_fffd),
+        (Act::Load(2067), 0x7fff_ffff_ffff_fffd),
+        (Act::Load(2179), 500),
+    ] {
         assert_eq!(rt; step(&mut agent, &mut words), Some((act, old)));
     }
-    for (act, old) in READ {
+    for place in 10955..10987 {
+        let store = Act::Store(place, NON_SECURE);
+        assert_eq!(rt; step(&mut agent, &mut words), Some((store, 0)));
+    }
+    // The changed word hasn't sixteen equal GPIs: there is nothing to merge.
+    for (act, old) in [
+        (Act::Store(10960, 0x9999_9999_9999_b999), 0),
+        (Act::Store(276, 0x7fff_ffff_ffff_fffe), 0),
+        (Act::Store(2067, 0x7fff_ffff_ffff_fffe), 0),
+        (Act::Store(2179, 501), 0),
+        (Act::And(0, !2), 2),
+    ] {
         assert_eq!(rt; step(&mut agent, &mut words), Some((act, old)));
     }
-    assert_eq!(rt; step(&mut agent, &mut words), Some((UNLOCK, 1)));
+    let given = Generations {
+        two: 0x7fff_ffff_ffff_fffe,
+        thirty_two: 0x7fff_ffff_ffff_fffe,
+        five_twelve: 501,
+    };
+    assert_eq!(rt; agent.answers(), [Answer::Done(given)].as_slice());
     assert_eq!(rt; agent.next(), None);
-    assert_eq!(rt; agent.left(), 1);
-    assert!(rt; agent.answers().is_empty());
-    assert!(rt; !agent.waits());
-    assert_eq!(rt; words.words().first().copied(), Some(0));
+    // The words beside the block are as they were.
+    assert_eq!(rt; words.words().get(10954).copied(), Some(TWO_MB));
+    assert_eq!(rt; words.words().get(10987).copied(), Some(TWO_MB));
+    Ok(())
+}
+
+#[test]
+fn an_undelegate_lets_2_mb_merge_again(rt: HostRuntime) -> Result<(), Fail> {
+    let mut words = started(rt.alloc(), NON_SECURE)?;
+    set(&mut words, [(10960, 0x9999_9999_9999_b999)].as_slice());
+    let tasks = vec![in rt.alloc(); Task::Undelegate(INSIDE, Source::Realm)]?;
+    let mut agent = Agent::new(rt.alloc(), one_table(MaxBlock::Two)?, tasks)?;
+    for (act, old) in UNDELEGATE_REALM {
+        assert_eq!(rt; step(&mut agent, &mut words), Some((act, old)));
+    }
+    for place in 10955..10987 {
+        let load = Act::Load(place);
+        assert_eq!(rt; step(&mut agent, &mut words), Some((load, NON_SECURE)));
+        assert_eq!(rt; agent.left(), 1);
+    }
+    for place in 10955..10987 {
+        let store = Act::Store(place, TWO_MB);
+        assert_eq!(rt; step(&mut agent, &mut words), Some((store, 0)));
+        assert_eq!(rt; agent.left(), 1);
+    }
+    assert_eq!(rt; step(&mut agent, &mut words), Some((Act::And(0, !2), 2)));
+    assert_eq!(rt; agent.answers(), [Answer::Done(TWICE_RAISED)].as_slice());
+    assert_eq!(rt; agent.next(), None);
+    Ok(())
+}
+
+#[test]
+fn merging_stops_at_the_first_word_that_differs(rt: HostRuntime) -> Result<(), Fail> {
+    // Another granule of the 2 MB, in its fourth word, is Realm too, and one in its last word.
+    let mut words = started(rt.alloc(), NON_SECURE)?;
+    set(
+        &mut words,
+        [
+            (10958, 0xb999_9999_9999_9999),
+            (10960, 0x9999_9999_9999_b999),
+            (10986, 0x9999_9999_9999_999b),
+        ]
+        .as_slice(),
+    );
+    let tasks = vec![in rt.alloc(); Task::Undelegate(INSIDE, Source::Realm)]?;
+    let mut agent = Agent::new(rt.alloc(), one_table(MaxBlock::Two)?, tasks)?;
+    for (act, old) in UNDELEGATE_REALM {
+        assert_eq!(rt; step(&mut agent, &mut words), Some((act, old)));
+    }
+    for (act, old) in [
+        (Act::Load(10955), NON_SECURE),
+        (Act::Load(10956), NON_SECURE),
+        (Act::Load(10957), NON_SECURE),
+        (Act::Load(10958), 0xb999_9999_9999_9999),
+        (Act::And(0, !2), 2),
+    ] {
+        assert_eq!(rt; step(&mut agent, &mut words), Some((act, old)));
+    }
+    assert_eq!(rt; agent.answers(), [Answer::Done(TWICE_RAISED)].as_slice());
+    assert_eq!(rt; agent.next(), None);
+    Ok(())
+}
+
+#[test]
+fn a_granule_that_comes_back_lets_32_mb_merge_again(rt: HostRuntime) -> Result<(), Fail> {
+    // The third 32 MB of its 512 MB begin with 2 MB, so the 512 MB can't merge.
+    let mut words = started(rt.alloc(), THIRTY_TWO_MB)?;
+    set(&mut words, [(11403, TWO_MB)].as_slice());
+    let tasks = vec![in rt.alloc();
+        Task::Delegate(INSIDE, Source::Secure),
+        Task::Undelegate(INSIDE, Source::Secure),
+    ]?;
+    let mut agent = Agent::new(rt.alloc(), one_table(MaxBlock::FiveTwelve)?, tasks)?;
+
+    // The delegate. The 32 MB have words 10891 to 11402, the 2 MB of the granule 10955 to 10986.
+    for (act, old) in [
+        (Act::Or(0, 2), 0),
+        (Act::Load(10960), THIRTY_TWO_MB),
+        (Act::Load(276), 0),
+        (Act::Load(2067), 0),
+        (Act::Load(2179), 0),
+    ] {
+        assert_eq!(rt; step(&mut agent, &mut words), Some((act, old)));
+    }
+    for place in 10891..11403 {
+        let word = if 10955 <= place && place < 10987 {
+            NON_SECURE
+        } else {
+            TWO_MB
+        };
+        let store = Act::Store(place, word);
+        assert_eq!(rt; step(&mut agent, &mut words), Some((store, 0)));
+    }
+    for (act, old) in [
+        (Act::Store(10960, 0x9999_9999_9999_8999), 0),
+        (Act::Store(276, 1), 0),
+        (Act::Store(2067, 1), 0),
+        (Act::Store(2179, 1), 0),
+        (Act::And(0, !2), 2),
+    ] {
+        assert_eq!(rt; agent.left(), 2);
+        assert_eq!(rt; step(&mut agent, &mut words), Some((act, old)));
+    }
+
+    // The undelegate.
+    for (act, old) in [
+        (Act::Or(0, 2), 0),
+        (Act::Load(10960), 0x9999_9999_9999_8999),
+        (Act::Load(276), 1),
+        (Act::Load(2067), 1),
+        (Act::Load(2179), 1),
+        (Act::Store(10960, 0x9999_9999_9999_0999), 0),
+        (Act::Store(276, 2), 0),
+        (Act::Store(2067, 2), 0),
+        (Act::Store(2179, 2), 0),
+        (Act::Store(10960, NON_SECURE), 0),
+        (Act::Store(276, 3), 0),
+        (Act::Store(2067, 3), 0),
+        (Act::Store(2179, 3), 0),
+    ] {
+        assert_eq!(rt; agent.left(), 1);
+        assert_eq!(rt; step(&mut agent, &mut words), Some((act, old)));
+    }
+    for place in 10955..10987 {
+        let load = Act::Load(place);
+        assert_eq!(rt; step(&mut agent, &mut words), Some((load, NON_SECURE)));
+    }
+    // The first words of the other fifteen 2 MB, and then of the other 32 MB up to one that differs.
+    for place in OTHER_2_MB {
+        let load = Act::Load(place);
+        assert_eq!(rt; step(&mut agent, &mut words), Some((load, TWO_MB)));
+    }
+    for (act, old) in [
+        (Act::Load(10379), THIRTY_TWO_MB),
+        (Act::Load(11403), TWO_MB),
+    ] {
+        assert_eq!(rt; step(&mut agent, &mut words), Some((act, old)));
+    }
+    for place in 10891..11403 {
+        let store = Act::Store(place, THIRTY_TWO_MB);
+        assert_eq!(rt; step(&mut agent, &mut words), Some((store, 0)));
+    }
+    assert_eq!(rt; step(&mut agent, &mut words), Some((Act::And(0, !2), 2)));
+    let once = Generations {
+        two: 1,
+        thirty_two: 1,
+        five_twelve: 1,
+    };
+    let thrice = Generations {
+        two: 3,
+        thirty_two: 3,
+        five_twelve: 3,
+    };
+    let answers = [Answer::Done(once), Answer::Done(thrice)];
+    assert_eq!(rt; agent.answers(), answers.as_slice());
+    assert_eq!(rt; agent.next(), None);
     Ok(())
 }
 
@@ -310,7 +521,7 @@ fn a_call_that_finds_a_contiguous_entry_releases_its_lock_and_stops(
 fn an_unknown_call_is_answered_without_acts(rt: HostRuntime) -> Result<(), Fail> {
     let tasks = vec![in rt.alloc(); Task::Unknown, DELEGATE, Task::Unknown]?;
     let mut words = started(rt.alloc(), SECURE)?;
-    let mut agent = Agent::new(rt.alloc(), one_table()?, tasks)?;
+    let mut agent = Agent::new(rt.alloc(), one_table(MaxBlock::FiveTwelve)?, tasks)?;
     assert_eq!(rt; agent.answers(), [Answer::Unknown].as_slice());
     for act in [LOCK, LOOK, UNLOCK] {
         assert_eq!(rt; agent.left(), 2);

@@ -33,7 +33,12 @@ impl Model for Transition {
 
     ghost Value = { TransitionData };
 
-    ghost view = { λ d. record { task = d.task; places = d.places; stage = d.stage; waited = d.waited } };
+    ghost view = { λ d. record {
+      task = d.task;
+      places = d.places;
+      stage = d.stage;
+      waited = d.waited;
+    } };
 
     ghost inverse = { λ d. record {
       task = d.task;
@@ -154,18 +159,18 @@ impl Transition {
         ensures { result ≡ next_by self.now }
     {
         let places = &self.places;
-        match self.stage {
+        match &self.stage {
             Stage::Locking => Some(take(places.lock)),
             Stage::Looking => Some(Act::Load(places.word)),
-            Stage::Reading(size, _) => Some(Act::Load(places.generation(size))),
+            Stage::Reading(size, _) => Some(Act::Load(places.generation(*size))),
             Stage::Splitting(_, splitting, _) => splitting.next(),
             Stage::Changing(change, kept) => {
-                let word = changed_word(self.task, change, places.field, kept.word);
+                let word = changed_word(self.task, *change, places.field, kept.word);
                 Some(Act::Store(places.word, word))
             }
             Stage::Raising(_, size, kept) => {
-                let raised = kept.generations.get(size) + 1;
-                Some(Act::Store(places.generation(size), raised))
+                let raised = kept.generations.get(*size) + 1;
+                Some(Act::Store(places.generation(*size), raised))
             }
             Stage::Merging(fuse, _) => fuse.next(),
             Stage::Releasing(_) => Some(drop_act(places.lock)),
@@ -178,30 +183,33 @@ impl Transition {
         requires readable { IsReadable self.now.stage old }
         ensures { result ≡ stage_after geometry.now self.now.task self.now.stage old }
     {
-        match self.stage {
+        match &self.stage {
             Stage::Locking => Stage::Looking,
             Stage::Looking => looked_stage(self.task, self.places.field, old),
             Stage::Reading(size, kept) => {
-                read_stage(geometry, self.task, size, kept.with(size, old))
+                read_stage(geometry, self.task, *size, kept.with(*size, old))
             }
-            Stage::Splitting(size, mut splitting, generations) => {
+            Stage::Splitting(size, splitting, generations) => {
+                let mut splitting = *splitting;
                 splitting.advance();
-                split_stage(self.task, size, splitting, generations)
+                split_stage(self.task, *size, splitting, *generations)
             }
             Stage::Changing(change, kept) => {
-                let word = changed_word(self.task, change, self.places.field, kept.word);
+                let word = changed_word(self.task, *change, self.places.field, kept.word);
                 let generations = kept.generations;
-                Stage::Raising(change, Size::Two, Kept { word, generations })
+                Stage::Raising(*change, Size::Two, Kept { word, generations })
             }
             Stage::Raising(change, size, kept) => {
-                let raised = kept.generations.get(size) + 1;
-                raised_stage(geometry, self.task, change, size, kept.with(size, raised))
+                let raised = kept.generations.get(*size) + 1;
+                let kept = kept.with(*size, raised);
+                raised_stage(geometry, self.task, *change, *size, kept)
             }
-            Stage::Merging(mut fuse, generations) => {
+            Stage::Merging(fuse, generations) => {
+                let mut fuse = *fuse;
                 fuse.took(old);
-                merged_stage(fuse, generations)
+                merged_stage(fuse, *generations)
             }
-            Stage::Releasing(answer) => Stage::Releasing(answer),
+            Stage::Releasing(answer) => Stage::Releasing(*answer),
         }
     }
 
@@ -212,9 +220,9 @@ impl Transition {
         matches!(self.stage, Stage::Locking) && !was_free(self.places.lock, old)
     }
 
-    /// Takes note that the next act was made and answered `old`. The answer is there exactly where that
-    /// act released the lock: then the call has ended, and the transition is as it was. The geometry is
-    /// that for which it was made.
+    /// Takes note that the next act was made and answered `old`. The answer is there exactly where
+    /// that act released the lock: then the call has ended, and the transition is as it was. The
+    /// geometry is that for which it was made.
     pub fn took(&mut self, geometry: &Geometry, old: u64) -> Option<Answer>
         requires transition { IsTransition geometry.now self.old }
         requires readable { IsReadable self.old.stage old }
@@ -222,8 +230,8 @@ impl Transition {
         ensures after { self.new ≡ after_by geometry.now self.old old }
         ensures transition { IsTransition geometry.now self.new }
     {
-        if let Stage::Releasing(answer) = self.stage {
-            return Some(answer);
+        if let Stage::Releasing(answer) = &self.stage {
+            return Some(*answer);
         }
         self.waited = self.is_held(old);
         if !self.waited {
@@ -237,5 +245,15 @@ impl Transition {
         ensures { result ≡ self.now.waited }
     {
         self.waited
+    }
+}
+
+#[cfg(test)]
+impl Transition {
+    /// Whether the next act may answer `old`: one that looks at an L1 word answers a descriptor.
+    pub fn may_take(&self, old: u64) -> bool
+        ensures { IsTrue result → IsReadable self.now.stage old }
+    {
+        !matches!(self.stage, Stage::Looking) || decode_l1(old).is_some()
     }
 }

@@ -1,11 +1,9 @@
--- The rule that refuses an input, from the error of reading, planning or building.
+-- The rule that refuses an input, from the error of planning or building.
 use Rattle.std.proofs.Common.{◌≡◌, ℕ, ◌≤◌, List, length, None, sym, subst}
 use Rattle.std.specs.Prelude.{Result, Ok, Err, IfErr, IsErrAnd}
 use Rattle.scenario_text.specs.declared.scenario.Scenario.{Scenario}
-use Rattle.scenario_text.specs.declared.scenario.TextError.{TextError}
-use Rattle.scenario_text.specs.declared.scenario.TextError.TheVariants as text_error
 use Rattle.scenario_text.specs.Spelling.{WellFormed, text_of}
-use Rattle.scenario_text.specs.Faults.{first_bad, IsFault}
+use Rattle.scenario_text.specs.Faults.{first_bad}
 use Rattle.region_plan.specs.declared.refusing.PlanError.{PlanError}
 use Rattle.region_plan.specs.declared.refusing.PlanError.TheVariants as plan_error
 use Rattle.region_plan.specs.Refusals.{refusal}
@@ -16,14 +14,10 @@ use Rattle.table_build.specs.Built.{is_bad_base}
 use Rattle.table_build.specs.Outcome.{IsBadBase}
 use Rattle.gpt_stream.specs.declared.input.TheConstants.{INPUT_LIMIT}
 use Rattle.gpt_cli.specs.declared.refusal.Refusal.{Refusal}
-use Rattle.gpt_cli.specs.InnerPreparing.{HasScenario, Refuses, of_text_error, of_plan_error, of_build_error}
+use Rattle.gpt_cli.specs.InnerPreparing.{HasScenario, Refuses, of_plan_error, of_build_error}
 
 pub has_scenario : (bytes : List ℕ) (s : Scenario) → length bytes ≤ INPUT_LIMIT → first_bad bytes ≡ None → WellFormed s × (bytes ≡ text_of s) → HasScenario bytes s
 has_scenario bytes s within good text = record { within = within; good = good; formed = text.0; spelled = text.1 }
-
-pub text_refuses : (bytes : List ℕ) (e : TextError) → length bytes ≤ INPUT_LIMIT → IsFault e (first_bad bytes) → Refuses bytes (of_text_error e)
-text_refuses bytes (text_error.Line n f) within bad = (within, bad)
-text_refuses bytes text_error.Memory within bad = within
 
 pub plan_refuses : (bytes : List ℕ) (s : Scenario) (e : PlanError) → HasScenario bytes s → IsRefusal e (refusal s.setup s.regions) → Refuses bytes (of_plan_error e)
 plan_refuses bytes s plan_error.Empty read bad = (s, read, bad)
