@@ -1,7 +1,7 @@
 #!/usr/bin/env bash
 # Processor time of the turns that `PROGRAM play` plays: of an agent that waits at a held lock, of 2 and
-# of many agents that wait, and of agents that make whole transitions, with few regions and calls and with
-# many.
+# of many agents that wait, of agents that make whole transitions, with few regions and calls and with
+# many, and of an agent that splits and merges 512 MB.
 #
 #     bench/turns.sh PROGRAM [RUNS]
 #
@@ -25,6 +25,8 @@ readonly most_bytes=1048576
 readonly delegate_acts=10
 readonly undelegate_acts=14
 readonly pair_acts=$((delegate_acts + undelegate_acts))
+# At `max 512` a pair splits its block in 8,192 stores, and merges it in 62 loads and as many stores.
+readonly split_acts=$((pair_acts + 8192 + 62 + 8192))
 readonly most_ratio=1.3
 readonly gigabyte=$((1 << 30))
 failed=0
@@ -33,11 +35,11 @@ folder=$(mktemp -d)
 readonly folder
 trap 'rm -rf "$folder"' EXIT
 
-# The head of a scenario, without contiguous entries. The first gigabyte is Non-secure, in $1 equal regions (1
-# if left out).
+# The head of a scenario, without contiguous entries where `max` isn't set. The first gigabyte is Non-secure, in
+# $1 equal regions (1 if left out).
 head_text() {
     local i step=$((gigabyte / ${1:-1}))
-    printf '%s\n' 'gpt 1' 'space 4' 'max 0' 'locks 1' 'first 0' 'ring 8' 'tables 1' 'base 0x80000000'
+    printf '%s\n' 'gpt 1' 'space 4' "max ${max:-0}" 'locks 1' 'first 0' 'ring 8' 'tables 1' 'base 0x80000000'
     for ((i = 0; i < ${1:-1}; i++)); do
         printf 'region 0x%x 0x%x granule nonsecure\n' $((i * step)) "$step"
     done
@@ -190,6 +192,20 @@ row "$many_pairs pairs, 256 regions" "$many_acts" $((region256 - region256_one))
 row "$few_pairs pairs, 1 region" "$few_acts" $((calls - calls_one))
 compare 'an act with 256 regions to one with 1' $((region256 - region256_one)) "$many_acts" $((region1 - region1_one)) "$many_acts"
 compare 'an act with twice the calls' $((region1 - region1_one)) "$many_acts" $((calls - calls_one)) "$few_acts"
+
+# ---- splitting and merging
+
+readonly split_pairs=$((most_turns / split_acts))
+readonly all_split=$((split_pairs * split_acts))
+max=512 pair_agents 1 "$split_pairs" 0x0 | scenario line "turn 0 $all_split"
+max=512 pair_agents 1 "$split_pairs" 0x0 | scenario rounds "round 64 $((all_split / 64 + 1))"
+times=$(least line=0 line.one=6 rounds=0 rounds.one=6)
+read -r line line_one rounds rounds_one <<<"$times"
+
+echo
+heading 'splitting and merging of 512 MB; with printing' acts 'time ms' 'ns/act'
+row "$split_pairs pairs in one turn line" "$all_split" $((line - line_one))
+row "$split_pairs pairs in rounds of 64 turns" "$all_split" $((rounds - rounds_one))
 
 # ---- one acts and the rest wait
 
