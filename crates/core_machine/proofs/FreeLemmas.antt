@@ -118,21 +118,24 @@ tables_told g s stands = part_means g s.words s.callers (map_after s.first s.his
 clear_low : (g : GeometryData) (w i : ℕ) → IsGeometry g → l1_index g.setup (l0_words g) w ≡ Some i → lock_number g.setup (w * word_bytes g.setup) < 128
 clear_low g w i geometry at = lock_low g.setup (w * word_bytes g.setup) geometry.setup (word_low g.setup w (index_inside g w i geometry at))
 
-pub canonical_told : (g : GeometryData) (s : Scene) → HoldsIn g s → (w i : ℕ) → l1_index g.setup (l0_words g) w ≡ Some i → lock_bit s.words (lock_number g.setup (w * word_bytes g.setup)) ≡ 0
-    → slice_index (table_part g s.words) i ≡ canonical_word g.setup (map_after s.first s.history) None w
-canonical_told g s stands w i at clear =
-    let m : ℕ → Gpi = map_after s.first s.history in
-    let below = clear_low g w i stands.shape.geometry at in
-    let free : apart_by g.setup (map holder_by s.callers) w ≡ None =
-    free_word g.setup (map holder_by s.callers) w
-    (λ d h there.
-    let own = holder_at s.callers d h there in
-    subst (IsAway g w) own.2
-    (caller_away g s.words s.callers d w own.0 stands.locks below clear own.1 (made_at_place g s.first s.words s.callers d own.0 stands.shape own.1))) in
-    part_apart g m (apart_by g.setup (map holder_by s.callers)) s.words stands.shape.geometry stands.tables.level1 w i at
-    ∙ ap (λ (o : Option ℕ). canonical_word g.setup m o w) free
+-- each word is canonical apart from one granule at most, and from none where its lock is clear
+pub words_told : (g : GeometryData) (s : Scene) → HoldsIn g s → (w i : ℕ) → l1_index g.setup (l0_words g) w ≡ Some i
+    → (apart : Option ℕ) × (slice_index (table_part g s.words) i ≡ canonical_word g.setup (map_after s.first s.history) apart w)
+    × (lock_bit s.words (lock_number g.setup (w * word_bytes g.setup)) ≡ 0 → apart ≡ None)
+words_told g s stands w i at =
+    let below = clear_low g w i stands.shape.geometry at in (
+      apart_by g.setup (map holder_by s.callers) w,
+      part_apart g (map_after s.first s.history) (apart_by g.setup (map holder_by s.callers)) s.words stands.shape.geometry stands.tables.level1 w i at,
+      λ clear. free_word g.setup (map holder_by s.callers) w
+          (λ d h there.
+          let own = holder_at s.callers d h there in
+          subst (IsAway g w) own.2
+          (caller_away g s.words s.callers d w own.0 stands.locks below clear own.1 (made_at_place g s.first s.words s.callers d own.0 stands.shape own.1))),
+    )
 
 -- where no lock is held each word is canonical
 pub whole_told : {A : Type 0} (g : GeometryData) (s : Scene) → HoldsIn g s → (A → (n : ℕ) → n < 128 → lock_bit s.words n ≡ 0) → A → AreCanonical g.setup (l0_words g) (table_part g s.words) (map_after s.first s.history)
 whole_told g s stands ended all w i at =
-    canonical_told g s stands w i at (ended all (lock_number g.setup (w * word_bytes g.setup)) (clear_low g w i stands.shape.geometry at))
+    let told = words_told g s stands w i at in
+    told.1 ∙ ap (λ (o : Option ℕ). canonical_word g.setup (map_after s.first s.history) o w)
+    (told.2 (ended all (lock_number g.setup (w * word_bytes g.setup)) (clear_low g w i stands.shape.geometry at)))

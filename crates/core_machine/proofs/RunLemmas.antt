@@ -49,7 +49,7 @@ use Rattle.core_machine.proofs.ActLemmas.{lock_low}
 use Rattle.core_machine.proofs.MachineLemmas.{turns_hold, scene_of}
 use Rattle.core_machine.proofs.TraceLemmas.{played_walked, trace_entries, trace_words, trace_answered, IsDone, done_stays, turns_taken, trace_known, trace_counts}
 use Rattle.core_machine.proofs.AnswerLemmas.{calls_cause, alone_told, worn_told}
-use Rattle.core_machine.proofs.FreeLemmas.{tables_told, canonical_told, whole_told}
+use Rattle.core_machine.proofs.FreeLemmas.{tables_told, words_told, whole_told}
 use Rattle.delegate_ops.proofs.FollowLemmas.{walked_follows, walked_ended}
 use Rattle.delegate_ops.proofs.NextLemmas.{next_there}
 use Rattle.scenario_text.specs.declared.scenario.Look.{Look}
@@ -232,7 +232,7 @@ fits_history g s tasks stands have made count =
       undisturbed = stands.undisturbed;
       alone = alone_told g s stands made;
       tables = tables_told g s stands;
-      canonical = canonical_told g s stands;
+      canonical = words_told g s stands;
       generations = generations_told g s stands;
       ended = locks_ended g s tasks stands have;
       whole = whole_told g s stands (locks_ended g s tasks stands have);

@@ -1,5 +1,5 @@
 -- What callers leave fits a history: over plain data, with no scenario and no schedule.
-use Rattle.std.specs.Prelude.{◌≡◌, ◌⊎◌, ℕ, ◌+◌, ◌*◌, ◌<◌, Bool, true, false, ◌&&◌, ◌==◌, List, ◌∷◌, ◌++◌, length, slice_index, Some, None}
+use Rattle.std.specs.Prelude.{◌≡◌, ◌⊎◌, ℕ, ◌+◌, ◌*◌, ◌<◌, Bool, true, false, ◌&&◌, ◌==◌, List, ◌∷◌, ◌++◌, length, slice_index, Option, Some, None}
 use Rattle.std.specs.List.{All, list_any}
 use Rattle.gpi_values.specs.declared.gpi.Gpi.{Gpi}
 use Rattle.gpt_descriptors.specs.declared.size.Size.{Size}
@@ -103,17 +103,19 @@ pub record FitsHistory (g : GeometryData) (first : List Gpi) (tasks : List (List
   -- transitions on one lock block don't mix
   pub undisturbed : AreUndisturbed g.setup h
   pub alone : AreAlone g.setup answers h
-  -- the tables mean the last map; where the lock of a word's block is clear the word is canonical
+  -- the tables mean the last map; each word is canonical apart from one granule at most, and from
+  -- none where the lock of its block is clear
   pub tables : TablesMean g.setup (l0_words g) (table_part g words) (map_after first h)
   pub canonical : (w i : ℕ) → l1_index g.setup (l0_words g) w ≡ Some i
-      → lock_bit words (lock_number g.setup (w * word_bytes g.setup)) ≡ 0
-      → slice_index (table_part g words) i ≡ canonical_word g.setup (map_after first h) None w
+      → (apart : Option ℕ)
+      × (slice_index (table_part g words) i ≡ canonical_word g.setup (map_after first h) apart w)
+      × (lock_bit words (lock_number g.setup (w * word_bytes g.setup)) ≡ 0 → apart ≡ None)
   -- a generation is the count of its region, or one less while its lock is held
   pub generations : (y : Size) (region : ℕ) → region < blocks_in_region y * g.setup.gigabytes
       → (generation_word g words y region ≡ count_for g y region h)
       ⊎ ((generation_word g words y region + 1 ≡ count_for g y region h)
       × (lock_bit words (lock_number g.setup (region * size_bytes y)) ≡ 1))
-  -- where each call is answered no lock is held and the tables are the canonical ones of the last map
+  -- where each call is answered no lock is held, so that all words are canonical
   pub ended : AllAnswered tasks answers → (n : ℕ) → n < 128 → lock_bit words n ≡ 0
   pub whole : AllAnswered tasks answers
       → AreCanonical g.setup (l0_words g) (table_part g words) (map_after first h)

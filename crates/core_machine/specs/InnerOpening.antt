@@ -19,9 +19,9 @@ abbrev pub IsFresh : GeometryData → Caller → Type 0
 IsFresh g (caller.Agent a) = (a ≡ fresh g a.tasks) × IsAgent a
 IsFresh g (caller.Cpu looks) = Unit {0}
 
--- All words are there, no lock is held, the L1 words are the canonical ones of a map and each granule
--- below an L0 block has the block's GPI in it, duty words and lines are 0, and each generation is the
--- first one.
+-- All words are there, no lock is held, the L1 words are the canonical ones of a map and each
+-- granule below an L0 block has the block's GPI in it, duty words and lines are 0, and each
+-- generation is the first one.
 pub record AreStarting (g : GeometryData) (first : List Gpi) (words : List ℕ) : Type 0 where
   pub geometry : IsGeometry g
   pub size : length words ≡ word_count g
