@@ -1,4 +1,6 @@
--- What a transition changes: the GPI of its granule in the L1 word, and the generations around it.
+-- What a transition changes: the GPI of its granule in the L1 word, the generations around it, and,
+-- before that, the words of a contiguous block that holds it (TF-A gpt_rme, shattering of contiguous
+-- descriptors).
 use Rattle.std.specs.Prelude.{ℕ, ◌+◌, ◌-◌, ◌/◌, ◌%◌, List, [], Option, Some}
 use Rattle.gpi_values.specs.declared.gpi.Gpi.{Gpi}
 use Rattle.gpi_values.specs.declared.gpi.Gpi.TheVariants as gpi

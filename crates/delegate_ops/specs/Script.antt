@@ -1,6 +1,7 @@
 -- The script of a transition: its acts in their order, each with the word that it answered and the
--- entries that it makes in the history (TF-A, gpt_delegate_pas and gpt_undelegate_pas). An agent is
--- shown to follow it. Cleaning and the barrier are not in it yet.
+-- entries that it makes in the history. It goes through what TF-A's gpt_delegate_pas and
+-- gpt_undelegate_pas do, with splitting (shattering) first and merging (fusing) last, in an order of
+-- this project's own. An agent is shown to follow it. Cleaning and the barrier are not in it yet.
 use Rattle.std.specs.Prelude.{◌≡◌, ◌≢◌, ◌⊎◌, ℕ, ◌+◌, ◌/◌, List, [], ◌∷◌, ◌++◌, length, map, slice_get, Option, Some, None, MatchOption}
 use Rattle.std.specs.List.{All}
 use Rattle.std.specs.Int.Bits.{bit_and}
@@ -264,5 +265,5 @@ pub record Follows (g : GeometryData) (c : ℕ) (tasks : List Task) (answers : L
   pub last : List CallEvent
   pub parts : events ≡ calls ++ last
   pub answered : AreCallEvents g c 0 tasks answers calls
-  pub under_way : MatchOption (slice_get tasks (length answers)) (last
-      ≡ []) (λ t. IsUnderWay g c (length answers) t last)
+  pub under_way : MatchOption (slice_get tasks (length answers))
+      (last ≡ []) (λ t. IsUnderWay g c (length answers) t last)
