@@ -29,7 +29,7 @@ use Rattle.history.specs.declared.call.Answer.{Answer}
 use Rattle.history.specs.declared.call.Answer.TheVariants as answer
 use Rattle.delegate_ops.specs.declared.stage.Change.TheVariants as change
 use Rattle.delegate_ops.specs.declared.stage.Kept.{Kept}
-use Rattle.delegate_ops.specs.declared.stage.Stage.TheVariants as stage
+use Rattle.delegate_ops.specs.InnerStages as stage
 use Rattle.delegate_ops.specs.Deciding.{address_of, idle_answer, worn_answer}
 use Rattle.delegate_ops.specs.Changing.{first_change, changed_word, raised, splitting_of, split_stores, word_split}
 use Rattle.delegate_ops.specs.InnerAgents.{IsChangeOf, loaded_stage, read_all, split_stage, merging_stage, merged_stage, number_of}

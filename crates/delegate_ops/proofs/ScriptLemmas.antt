@@ -18,8 +18,8 @@ use Rattle.history.specs.declared.call.Answer.{Answer}
 use Rattle.delegate_ops.specs.declared.stage.Change.{Change}
 use Rattle.delegate_ops.specs.declared.stage.Change.TheVariants as change
 use Rattle.delegate_ops.specs.declared.stage.Kept.{Kept}
-use Rattle.delegate_ops.specs.declared.stage.Stage.{Stage}
-use Rattle.delegate_ops.specs.declared.stage.Stage.TheVariants as stage
+use Rattle.delegate_ops.specs.InnerStages.{Stage}
+use Rattle.delegate_ops.specs.InnerStages as stage
 use Rattle.delegate_ops.specs.Deciding.{address_of, idle_answer, looked_answer, generation_in, worn_answer}
 use Rattle.delegate_ops.specs.Changing.{changed_word}
 use Rattle.shatter.specs.Splitting.{advanced}
