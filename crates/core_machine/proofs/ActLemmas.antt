@@ -18,8 +18,8 @@ use Rattle.history.specs.States.{is_open, state_after}
 use Rattle.history.specs.Legality.{StateAllows}
 use Rattle.history.specs.Calls.{answered_entries}
 use Rattle.history.specs.Counts.{region_of, count_of}
-use Rattle.delegate_ops.specs.declared.stage.Stage.{Stage}
-use Rattle.delegate_ops.specs.declared.stage.Stage.TheVariants as stage
+use Rattle.delegate_ops.specs.InnerStages.{Stage}
+use Rattle.delegate_ops.specs.InnerStages as stage
 use Rattle.delegate_ops.specs.Deciding.{address_of, idle_answer, generation_in}
 use Rattle.delegate_ops.specs.InnerAgents.{AgentData, IsAgent, task_of, goes_to, took_at}
 use Rattle.delegate_ops.specs.InnerEntries.{entries_at}

@@ -21,7 +21,7 @@ use Rattle.history.specs.declared.call.Task.{Task}
 use Rattle.history.specs.Counts.{region_of}
 use Rattle.delegate_ops.specs.declared.stage.Change.{Change}
 use Rattle.delegate_ops.specs.declared.stage.Kept.{Kept}
-use Rattle.delegate_ops.specs.declared.stage.Stage.TheVariants as stage
+use Rattle.delegate_ops.specs.InnerStages as stage
 use Rattle.delegate_ops.specs.Deciding.{address_of}
 use Rattle.delegate_ops.specs.Changing.{from_of, to_of, changed_word}
 use Rattle.delegate_ops.specs.InnerAgents.{AgentData, kept_changed, goes_to}

@@ -26,8 +26,8 @@ use Rattle.history.specs.Legality.{granule_of, needed, is_transition, IsChange, 
 use Rattle.history.specs.Calls.{call_entries}
 use Rattle.delegate_ops.specs.declared.stage.Change.{Change}
 use Rattle.delegate_ops.specs.declared.stage.Change.TheVariants as change
-use Rattle.delegate_ops.specs.declared.stage.Stage.{Stage}
-use Rattle.delegate_ops.specs.declared.stage.Stage.TheVariants as stage
+use Rattle.delegate_ops.specs.InnerStages.{Stage}
+use Rattle.delegate_ops.specs.InnerStages as stage
 use Rattle.delegate_ops.specs.Deciding.{address_of, idle_answer, granule_place, is_needed, refusal_of, generation_in}
 use Rattle.delegate_ops.specs.InnerAgents.{IsChangeOf, IsStage}
 use Rattle.delegate_ops.specs.Script.{CallEvent, Decides, IsCall, change_entry}

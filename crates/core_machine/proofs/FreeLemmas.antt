@@ -17,8 +17,8 @@ use Rattle.table_meaning.specs.Equation.{Whole, Holder, apart_by}
 use Rattle.table_meaning.proofs.EquationLemmas.{free_word}
 use Rattle.bit_locks.specs.Locks.{lock_number, lock_bit}
 use Rattle.history.specs.declared.call.Task.{Task}
-use Rattle.delegate_ops.specs.declared.stage.Stage.{Stage}
-use Rattle.delegate_ops.specs.declared.stage.Stage.TheVariants as stage
+use Rattle.delegate_ops.specs.InnerStages.{Stage}
+use Rattle.delegate_ops.specs.InnerStages as stage
 use Rattle.delegate_ops.specs.Deciding.{address_of}
 use Rattle.delegate_ops.specs.Script.{granule_of_task}
 use Rattle.delegate_ops.proofs.AgentLemmas.{idle_stage}

@@ -9,8 +9,8 @@ use Rattle.shared_words.specs.Acts.{place_in, answer_of}
 use Rattle.bit_locks.specs.Locks.{take_act, release_act, lock_number}
 use Rattle.invalidate.specs.Generations.{gen_load_of, gen_raise_of}
 use Rattle.history.specs.declared.call.Task.{Task}
-use Rattle.delegate_ops.specs.declared.stage.Stage.{Stage}
-use Rattle.delegate_ops.specs.declared.stage.Stage.TheVariants as stage
+use Rattle.delegate_ops.specs.InnerStages.{Stage}
+use Rattle.delegate_ops.specs.InnerStages as stage
 use Rattle.delegate_ops.specs.Deciding.{address_of, generation_in, idle_answer}
 use Rattle.delegate_ops.specs.Changing.{changed_word}
 use Rattle.delegate_ops.specs.InnerAgents.{AgentData, IsStage, IsSplittingOf, IsMergingOf, HasActs, task_of, act_at, next_of, is_held, took_at, took_under_way, took_of}

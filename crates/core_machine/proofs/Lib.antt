@@ -25,6 +25,7 @@ pub mod EntryLemmas
 pub mod LegalLemmas
 pub mod PlayLemmas
 pub mod FitLemmas
+pub mod TurnLemmas
 pub mod TraceLemmas
 pub mod AnswerLemmas
 pub mod PartLemmas

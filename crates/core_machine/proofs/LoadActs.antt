@@ -34,8 +34,8 @@ use Rattle.history.specs.declared.entry.Entry.TheVariants as entry
 use Rattle.history.specs.Legality.{needed}
 use Rattle.history.specs.Counts.{counts_around, count_of, region_of}
 use Rattle.delegate_ops.specs.declared.stage.Kept.{Kept}
-use Rattle.delegate_ops.specs.declared.stage.Stage.{Stage}
-use Rattle.delegate_ops.specs.declared.stage.Stage.TheVariants as stage
+use Rattle.delegate_ops.specs.InnerStages.{Stage}
+use Rattle.delegate_ops.specs.InnerStages as stage
 use Rattle.delegate_ops.specs.Deciding.{address_of, idle_answer, is_needed, refusal_of, granule_place, looked_answer, generation_in, worn_answer, is_unusable}
 use Rattle.delegate_ops.specs.Changing.{first_change, from_of}
 use Rattle.delegate_ops.specs.InnerAgents.{AgentData, IsReadable, is_look, looked_stage, loaded_stage, read_all, read_stage, kept_read, goes_to, took_at, fresh}

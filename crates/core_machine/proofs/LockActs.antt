@@ -19,8 +19,8 @@ use Rattle.history.specs.declared.call.Answer.TheVariants as answer
 use Rattle.history.specs.declared.entry.Entry.{Entry}
 use Rattle.history.specs.Counts.{is_by}
 use Rattle.history.specs.Calls.{entries_by, answered_entries}
-use Rattle.delegate_ops.specs.declared.stage.Stage.{Stage}
-use Rattle.delegate_ops.specs.declared.stage.Stage.TheVariants as stage
+use Rattle.delegate_ops.specs.InnerStages.{Stage}
+use Rattle.delegate_ops.specs.InnerStages as stage
 use Rattle.delegate_ops.specs.Deciding.{idle_answer, is_unusable}
 use Rattle.delegate_ops.specs.InnerAgents.{AgentData, IsReadable, answered_first, idle_answers, goes_to, waits_at, after_answer, took_at}
 use Rattle.delegate_ops.proofs.AgentLemmas.{at_stage}

@@ -10,8 +10,8 @@ use Rattle.gpt_descriptors.specs.Places.{GeometryData}
 use Rattle.bit_locks.specs.Locks.{lock_number}
 use Rattle.history.specs.declared.call.Task.{Task}
 use Rattle.history.specs.States.{State, is_open, without}
-use Rattle.delegate_ops.specs.declared.stage.Stage.{Stage}
-use Rattle.delegate_ops.specs.declared.stage.Stage.TheVariants as stage
+use Rattle.delegate_ops.specs.InnerStages.{Stage}
+use Rattle.delegate_ops.specs.InnerStages as stage
 use Rattle.delegate_ops.specs.Deciding.{address_of}
 use Rattle.delegate_ops.specs.InnerAgents.{AgentData, task_of}
 use Rattle.core_machine.specs.declared.caller.Caller.{Caller}

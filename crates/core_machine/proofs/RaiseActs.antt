@@ -34,8 +34,8 @@ use Rattle.history.specs.Counts.{region_of}
 use Rattle.delegate_ops.specs.declared.stage.Change.{Change}
 use Rattle.delegate_ops.specs.declared.stage.Change.TheVariants as change
 use Rattle.delegate_ops.specs.declared.stage.Kept.{Kept}
-use Rattle.delegate_ops.specs.declared.stage.Stage.{Stage}
-use Rattle.delegate_ops.specs.declared.stage.Stage.TheVariants as stage
+use Rattle.delegate_ops.specs.InnerStages.{Stage}
+use Rattle.delegate_ops.specs.InnerStages as stage
 use Rattle.delegate_ops.specs.Deciding.{address_of, generation_in}
 use Rattle.delegate_ops.specs.Changing.{from_of, to_of, raised_at}
 use Rattle.delegate_ops.specs.InnerAgents.{AgentData, IsChangeOf, IsStage, number_of, task_of, kept_raised, merging_stage, merged_stage, raised_stage, goes_to}

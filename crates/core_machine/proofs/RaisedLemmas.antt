@@ -12,8 +12,8 @@ use Rattle.bit_locks.specs.Locks.{lock_number}
 use Rattle.history.specs.declared.call.Task.{Task}
 use Rattle.history.specs.declared.entry.Entry.{Entry}
 use Rattle.history.specs.Counts.{region_of, count_of}
-use Rattle.delegate_ops.specs.declared.stage.Stage.{Stage}
-use Rattle.delegate_ops.specs.declared.stage.Stage.TheVariants as stage
+use Rattle.delegate_ops.specs.InnerStages.{Stage}
+use Rattle.delegate_ops.specs.InnerStages as stage
 use Rattle.delegate_ops.specs.Deciding.{address_of, generation_in}
 use Rattle.delegate_ops.specs.InnerAgents.{AgentData, task_of}
 use Rattle.delegate_ops.proofs.DecidingLemmas.{acts_inside}

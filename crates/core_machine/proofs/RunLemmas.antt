@@ -24,8 +24,8 @@ use Rattle.history.specs.declared.call.Answer.{Answer}
 use Rattle.history.specs.declared.entry.Entry.{Entry}
 use Rattle.history.specs.Calls.{task_at, answer_at}
 use Rattle.history.specs.Counts.{region_of, count_of}
-use Rattle.delegate_ops.specs.declared.stage.Stage.{Stage}
-use Rattle.delegate_ops.specs.declared.stage.Stage.TheVariants as stage
+use Rattle.delegate_ops.specs.InnerStages.{Stage}
+use Rattle.delegate_ops.specs.InnerStages as stage
 use Rattle.delegate_ops.specs.Deciding.{address_of, HasCause}
 use Rattle.delegate_ops.specs.InnerAgents.{AgentData, fresh, task_of, IsAgent, has_ended, next_of}
 use Rattle.delegate_ops.proofs.DecidingLemmas.{acts_inside}

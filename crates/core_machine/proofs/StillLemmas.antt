@@ -14,8 +14,8 @@ use Rattle.shared_words.specs.declared.act.Act.{Act}
 use Rattle.shared_words.specs.Acts.{answer_of, after_act}
 use Rattle.bit_locks.specs.Locks.{bit_with, take_act}
 use Rattle.history.specs.declared.call.Task.{Task}
-use Rattle.delegate_ops.specs.declared.stage.Stage.{Stage}
-use Rattle.delegate_ops.specs.declared.stage.Stage.TheVariants as stage
+use Rattle.delegate_ops.specs.InnerStages.{Stage}
+use Rattle.delegate_ops.specs.InnerStages as stage
 use Rattle.delegate_ops.specs.Script.{lock_bit_of}
 use Rattle.delegate_ops.specs.InnerAgents.{AgentData, task_of, act_at, next_of, is_held, waits_at, took_at, took_under_way}
 use Rattle.core_machine.specs.declared.caller.Caller.{Caller}

@@ -16,8 +16,8 @@ use Rattle.gpt_descriptors.proofs.SizeLemmas.{words_whole}
 use Rattle.gpt_descriptors.proofs.PlaceLemmas.{place_distinct, generation_named}
 use Rattle.bit_locks.specs.Locks.{lock_number, lock_bit}
 use Rattle.history.specs.declared.call.Task.{Task}
-use Rattle.delegate_ops.specs.declared.stage.Stage.{Stage}
-use Rattle.delegate_ops.specs.declared.stage.Stage.TheVariants as stage
+use Rattle.delegate_ops.specs.InnerStages.{Stage}
+use Rattle.delegate_ops.specs.InnerStages as stage
 use Rattle.table_meaning.specs.Changing.{AgreesAround}
 use Rattle.table_meaning.specs.Equation.{AreWords}
 use Rattle.table_meaning.proofs.FactLemmas.{facts_local}

@@ -3,8 +3,8 @@ use Rattle.std.specs.Prelude.{◌≡◌, ℕ, ◌<◌, Bool, true, false, List, 
 use Rattle.gpt_descriptors.specs.Places.{GeometryData}
 use Rattle.bit_locks.specs.Locks.{lock_number, lock_bit}
 use Rattle.history.specs.declared.call.Task.{Task}
-use Rattle.delegate_ops.specs.declared.stage.Stage.{Stage}
-use Rattle.delegate_ops.specs.declared.stage.Stage.TheVariants as stage
+use Rattle.delegate_ops.specs.InnerStages.{Stage}
+use Rattle.delegate_ops.specs.InnerStages as stage
 use Rattle.delegate_ops.specs.Deciding.{address_of}
 use Rattle.delegate_ops.specs.InnerAgents.{task_of}
 use Rattle.core_machine.specs.declared.caller.Caller.{Caller}

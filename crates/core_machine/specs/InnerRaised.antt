@@ -7,8 +7,8 @@ use Rattle.gpt_descriptors.specs.Places.{GeometryData, blocks_in_region}
 use Rattle.history.specs.declared.call.Task.{Task}
 use Rattle.history.specs.declared.entry.Entry.{Entry}
 use Rattle.history.specs.Counts.{region_of, count_of}
-use Rattle.delegate_ops.specs.declared.stage.Stage.{Stage}
-use Rattle.delegate_ops.specs.declared.stage.Stage.TheVariants as stage
+use Rattle.delegate_ops.specs.InnerStages.{Stage}
+use Rattle.delegate_ops.specs.InnerStages as stage
 use Rattle.delegate_ops.specs.InnerAgents.{task_of}
 use Rattle.core_machine.specs.declared.caller.Caller.{Caller}
 use Rattle.core_machine.specs.declared.caller.Caller.TheVariants as caller

@@ -11,8 +11,8 @@ use Rattle.shatter.specs.Splitting.{SplittingData}
 use Rattle.history.specs.declared.call.Task.{Task}
 use Rattle.history.specs.Legality.{needed}
 use Rattle.delegate_ops.specs.declared.stage.Kept.{Kept}
-use Rattle.delegate_ops.specs.declared.stage.Stage.{Stage}
-use Rattle.delegate_ops.specs.declared.stage.Stage.TheVariants as stage
+use Rattle.delegate_ops.specs.InnerStages.{Stage}
+use Rattle.delegate_ops.specs.InnerStages as stage
 use Rattle.delegate_ops.specs.Deciding.{address_of, granule_place, generation_in}
 use Rattle.delegate_ops.specs.Changing.{from_of, to_of}
 use Rattle.delegate_ops.specs.Script.{granule_of_task}

@@ -6,8 +6,8 @@ use Rattle.table_meaning.specs.Meaning.{BlocksMean}
 use Rattle.table_meaning.specs.Equation.{Holder, Whole, apart_by, AreWords}
 use Rattle.table_meaning.specs.Facts as facts
 use Rattle.history.specs.declared.call.Task.{Task}
-use Rattle.delegate_ops.specs.declared.stage.Stage.{Stage}
-use Rattle.delegate_ops.specs.declared.stage.Stage.TheVariants as stage
+use Rattle.delegate_ops.specs.InnerStages.{Stage}
+use Rattle.delegate_ops.specs.InnerStages as stage
 use Rattle.delegate_ops.specs.Script.{granule_of_task}
 use Rattle.delegate_ops.specs.InnerAgents.{task_of}
 use Rattle.core_machine.specs.declared.caller.Caller.{Caller}

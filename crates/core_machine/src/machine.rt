@@ -52,16 +52,7 @@ impl<W: Words> Machine<W> {
         ensures invariant { KeepsInvariant self.old self.new (turn_entries self.old caller) }
         ensures still { result ≡ false → self.new ≡ self.old }
     {
-        let acting = &mut self.callers[caller];
-        if let Some(act) = acting.next() {
-            let waited = acting.waits();
-            let old = self.words.apply(act);
-            acting.took(old);
-            let again = acting.waits();
-            !(waited & again)
-        } else {
-            false
-        }
+        self.callers[caller].turn(&mut self.words)
     }
 
     /// One act of a caller, nothing where it has none. Where the machine had the invariant with a
