@@ -31,7 +31,7 @@ pub use Rattle.delegate_ops.specs.InnerStages.{Stage, kept_read}
 use Rattle.delegate_ops.specs.InnerStages as stage
 pub use Rattle.delegate_ops.specs.Deciding.{is_look}
 use Rattle.delegate_ops.specs.Deciding.{address_of, idle_answer, looked_answer, generation_in, worn_answer}
-use Rattle.delegate_ops.specs.Changing.{first_change, changed_word, with_generation, raised_at, word_in_block, splitting_of}
+use Rattle.delegate_ops.specs.Changing.{first_change, changed_word, raised_at, word_in_block, splitting_of}
 use Rattle.delegate_ops.specs.Script.{lock_bit_of}
 
 pub record AgentData : Type 0 where

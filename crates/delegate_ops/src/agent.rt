@@ -138,7 +138,12 @@ impl Agent {
     {
         self.answers.push_reserved(answer);
         answer_idle(&self.geometry, &self.tasks, &mut self.answers);
-        begin(&self.geometry, &self.tasks, &self.answers, &mut self.transition);
+        begin(
+            &self.geometry,
+            &self.tasks,
+            &self.answers,
+            &mut self.transition,
+        );
     }
 
     /// Takes note that the next act was made and answered `old`.

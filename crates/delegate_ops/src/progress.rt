@@ -1,15 +1,15 @@
 ghost use Rattle.std.specs.Prelude.{◌≡◌, ◌<◌, ◌==◌, not, if◌then◌else◌, IsSome, IsTrue, is_some, None};
 ghost use Rattle.std.specs.Int.Bits.{bit_and};
 ghost use Rattle.gpt_descriptors.specs.Entries.{l1_entry, word_gpi};
-ghost use Rattle.gpt_descriptors.specs.Places.{GeometryData};
+ghost use Rattle.gpt_descriptors.specs.Places.{GeometryData, l1_index_of};
 ghost use Rattle.shatter.specs.Splitting.{next_store, advanced};
 ghost use Rattle.shared_words.specs.Next.{old_by, words_after, MayBeMade};
-ghost use Rattle.fuse.specs.Merging.{took_of, next_of};
-ghost use Rattle.delegate_ops.specs.Deciding.{idle_answer, refusal_of, worn_answer};
+ghost use Rattle.fuse.specs.Merging.{took_of, next_of, fuse_of};
+ghost use Rattle.delegate_ops.specs.Deciding.{address_of, idle_answer, refusal_of, worn_answer};
 ghost use Rattle.delegate_ops.specs.InnerStages.{stage_of, waits_in, kept_read};
 ghost use Rattle.delegate_ops.specs.InnerStages as stage;
 ghost use Rattle.delegate_ops.specs.declared.stage.Phase.TheVariants as the_phase;
-ghost use Rattle.delegate_ops.specs.InnerAgents.{IsReadable, looked_stage, loaded_stage, read_all, read_stage, split_stage, merged_stage, raised_stage, stage_after};
+ghost use Rattle.delegate_ops.specs.InnerAgents.{IsReadable, number_of, looked_stage, loaded_stage, read_all, read_stage, split_stage, merged_stage, raised_stage, stage_after};
 ghost use Rattle.delegate_ops.specs.InnerTransition.{IsTransition, act_by, answer_by, after_by, at_progress, turned_by, GoesTo};
 
 use crate::blocks::{merging_of, splitting_of};
@@ -18,7 +18,7 @@ use crate::deciding::{is_needed, worn_size};
 use crate::places::Places;
 use crate::stage::{Change, Ending, Kept, Phase};
 use bit_locks::{Bit, drop_act, take, was_free};
-use fuse::Fuse;
+use fuse::{Fuse, has_acts};
 use gpt_descriptors::{Geometry, Gpi, L1Entry, Size, decode_l1, granules_of, l1_field};
 use history::{Answer, Task};
 use shared_words::{Act, Words};
@@ -222,21 +222,34 @@ impl Progress {
         };
     }
 
+    /// The last change is complete: merging begins, where it has acts.
+    #[tactic(auto, using(fuse::proofs::StartLemmas::without_acts))]
+    fn merge(&mut self, geometry: &Geometry, task: Task)
+        requires { idle_answer geometry.now task ≡ None }
+        ensures { GoesTo self.new (merged_stage (fuse_of geometry.now
+            (number_of (l1_index_of geometry.now (address_of task))) self.old.kept.word)
+            self.old.kept.generations) }
+    {
+        if has_acts(geometry.setup().max(), self.kept.word) {
+            self.merging = merging_of(geometry, task, self.kept.word);
+            self.settle();
+        } else {
+            self.phase = Phase::Releasing(Ending::Done);
+        }
+    }
+
     /// The generation of this size was raised to this value after a change.
-    fn raised(&mut self, geometry: &Geometry, task: Task, change: Change, size: Size, value: u64)
+    fn raised(&mut self, geometry: &Geometry, task: Task, change: Change, size: Size, raised: u64)
         requires { idle_answer geometry.now task ≡ None }
         ensures { GoesTo self.new
-            (raised_stage geometry.now task change size (kept_read size value self.old.kept)) }
+            (raised_stage geometry.now task change size (kept_read size raised self.old.kept)) }
     {
-        self.kept.note(size, value);
+        self.kept.note(size, raised);
         match (size, change) {
             (Size::Two, _) => self.phase = Phase::Raising(change, Size::ThirtyTwo),
             (Size::ThirtyTwo, _) => self.phase = Phase::Raising(change, Size::FiveTwelve),
             (Size::FiveTwelve, Change::First) => self.phase = Phase::Changing(Change::Last),
-            (Size::FiveTwelve, Change::Last) => {
-                self.merging = merging_of(geometry, task, self.kept.word);
-                self.settle();
-            }
+            (Size::FiveTwelve, Change::Last) => self.merge(geometry, task),
         }
     }
 

@@ -104,8 +104,7 @@ impl Transition {
             ≡ turned_by self.old (old_by (next_by self.old) (W.words words.old)) }
         ensures transition { IsTransition geometry.now self.new }
     {
-        self.progress
-            .turn(geometry, &self.places, self.task, words)
+        self.progress.turn(geometry, &self.places, self.task, words)
     }
 
     /// Whether the last act was a lock that wasn't free.

@@ -1,7 +1,7 @@
-use Rattle.std.proofs.Common.{◌≡◌, ℕ, Bool, Option, Some, None, refl, sym, subst, ap, ◌∙◌}
+use Rattle.std.proofs.Common.{Bool, refl, sym, subst, ap, ◌∙◌}
 use Rattle.std.specs.Prelude.{is_some}
 use Rattle.delegate_ops.specs.InnerAgents.{AgentData, IsStill, next_of}
-use Rattle.delegate_ops.proofs.TransitionLemmas.{is_under_way, some_under_way, agent_of, next_is, goes_is, ends_is, still_under_way}
+use Rattle.delegate_ops.proofs.TransitionLemmas.{is_under_way, some_under_way, next_is, goes_is, ends_is, still_under_way}
 use Rattle.delegate_ops.proofs.TurnLemmas.{goes_unanswered, still_unanswered, ends_answered, keeps_answer, is_still, may_turn, by_transition, turned_words, turned_agent}
 use Rattle.delegate_ops.proofs.agent.Agent.turn.Goals as goal
 
