@@ -27,23 +27,19 @@ use Rattle.delegate_ops.proofs.DecidingLemmas.{acts_inside, acts_usable}
 use Rattle.delegate_ops.proofs.AgentLemmas.{at_stage}
 use Rattle.core_machine.specs.declared.caller.Caller.{Caller}
 use Rattle.core_machine.specs.declared.caller.Caller.TheVariants as caller
-use Rattle.core_machine.specs.InnerTables.{AreTables}
-use Rattle.core_machine.specs.InnerLocks.{is_inside, holds}
-use Rattle.core_machine.specs.InnerOpened.{open_at, open_by, pairs_of, OpenAreHeld}
-use Rattle.core_machine.specs.InnerSeen.{Sees, SeesGeneration, SeesAt}
-use Rattle.core_machine.specs.InnerRaised.{is_due_at, is_around, is_due}
-use Rattle.core_machine.specs.InnerCounted.{coming_at}
-use Rattle.core_machine.specs.InnerInvariant.{IsMade}
-use Rattle.core_machine.specs.InnerScene.{Scene, state_in, HoldsIn, scene_after}
+use Rattle.core_machine.specs.InnerInvariant.{AreTables, pairs_of, OpenAreHeld, HoldsIn}
+use Rattle.core_machine.specs.InnerScene.{Scene, state_in, scene_after, map_in}
 use Rattle.core_machine.proofs.ListLemmas.{one, get_append, get_front, get_last}
 use Rattle.core_machine.proofs.TableLemmas.{usable_aligned}
 use Rattle.core_machine.proofs.WordLemmas.{Writes, writes_none, is_lock, is_generation, is_idle, IsOfBlock, locks_left, generations_left}
 use Rattle.core_machine.proofs.OthersLemmas.{Holder, other_number, made_at_place, is_holder, holder_has, others_see, granule_address}
 use Rattle.core_machine.proofs.OpenedLemmas.{opened_stays, others_closed, closed_here}
 use Rattle.core_machine.proofs.RaisedLemmas.{count_seen}
-use Rattle.core_machine.proofs.StepLemmas.{list_of, added_to, map_in, map_next, IsEntryOf, step_keeps, counted_grown}
+use Rattle.core_machine.proofs.StepLemmas.{list_of, added_to, map_next, IsEntryOf, step_keeps, counted_grown}
 use Rattle.core_machine.specs.Facts.{IsCounted, generation_word, is_on_block}
 use Rattle.delegate_ops.specs.Script.{granule_of_task}
+use Rattle.core_machine.specs.InnerAgentCaller.{is_inside, open_at, SeesGeneration, SeesAt, is_due_at, is_around, coming_at}
+use Rattle.core_machine.specs.InnerCallers.{holds, open_by, Sees, is_due, IsMade}
 
 -- ---- the caller that acts
 
@@ -85,7 +81,7 @@ module _ {s : Scene} {c : ℕ} {a : AgentData} {t : Task} {st : Stage} (acting :
   low_of = lock_low a.geometry.setup (address_of t) acting.stands.shape.geometry.setup inside_of
 
   pub mades_of : (d : ℕ) (y : Caller) → slice_get s.callers d ≡ Some y → IsMade a.geometry y
-  mades_of d y there = made_at_place a.geometry s.first s.words s.callers d y acting.stands.shape there
+  mades_of d y there = made_at_place a.geometry s d y acting.stands there
 
   pub holder_of : is_inside st ≡ true → Holder a.geometry s.callers c (at_stage a st) t
   holder_of inside = record { at = acting.at; geometry = refl; inside = inside; under_way = acting.under_way; acts = acting.acts }

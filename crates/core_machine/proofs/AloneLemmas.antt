@@ -20,9 +20,9 @@ use Rattle.history.specs.Entries.{caller_in, call_in}
 use Rattle.history.specs.Legality.{is_still}
 use Rattle.history.specs.Calls.{entries_by, call_entries, look_entries, answered_entries}
 use Rattle.history.specs.Counts.{is_by}
-use Rattle.core_machine.specs.InnerAlone.{IsAlone}
 use Rattle.core_machine.proofs.ListLemmas.{all_one}
 use Rattle.core_machine.specs.Facts.{AreUndisturbed, is_on_block}
+use Rattle.core_machine.specs.InnerInvariant.{IsAlone}
 
 -- ---- lists in parts
 

@@ -36,21 +36,19 @@ use Rattle.core_machine.proofs.AloneLemmas.{all_middle, any_weaker, any_one, lat
 use Rattle.core_machine.proofs.ListLemmas.{all_one}
 use Rattle.core_machine.proofs.OthersLemmas.{granule_address}
 use Rattle.core_machine.proofs.ActLemmas.{on_number}
-use Rattle.core_machine.specs.InnerAlone.{IsAlone}
 use Rattle.core_machine.specs.Facts.{AreAlone, AreWorn, IsCounted, is_on_block}
 use Rattle.delegate_ops.specs.Script.{AreCallEvents, CallEvent, Decides, IsCall, change_entry, completion, entries_of, granule_of_task}
 use Rattle.delegate_ops.specs.Deciding.{HasCause, address_of, generation_in, granule_place, idle_answer, is_decided, is_needed, refusal_of}
 use Rattle.delegate_ops.specs.InnerScript.{IsPrefix}
-use Rattle.core_machine.specs.InnerScene.{Scene, HoldsIn}
-use Rattle.core_machine.specs.InnerHistory.{IsHistoryOf}
+use Rattle.core_machine.specs.InnerScene.{Scene}
 use Rattle.history.specs.Calls.{answer_at, answered_entries, entries_by}
 use Rattle.history.specs.Entries.{call_in, caller_in, granule_in}
-use Rattle.core_machine.specs.InnerCallers.{caller_answers, own_of}
-use Rattle.core_machine.specs.InnerCounted.{coming_at, known_answers}
+use Rattle.core_machine.specs.InnerCallers.{caller_answers, own_of, known_answers, holds}
 use Rattle.delegate_ops.specs.InnerEntries.{entries_at, entries_before}
 use Rattle.history.specs.Legality.{granule_of, needed}
-use Rattle.core_machine.specs.InnerLocks.{holds, is_inside}
 use Rattle.history.specs.Counts.{is_by, is_worn}
+use Rattle.core_machine.specs.InnerInvariant.{IsAlone, HoldsIn, IsHistoryOf}
+use Rattle.core_machine.specs.InnerAgentCaller.{coming_at, is_inside}
 
 -- ---- causes
 

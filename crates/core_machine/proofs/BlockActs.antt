@@ -45,19 +45,17 @@ use Rattle.delegate_ops.specs.Script.{granule_of_task}
 use Rattle.delegate_ops.specs.InnerAgents.{AgentData, IsStage, IsSplittingOf, IsMergingOf, goes_to, split_stage, merging_stage, merged_stage}
 use Rattle.delegate_ops.proofs.AgentLemmas.{at_stage}
 use Rattle.core_machine.specs.declared.caller.Caller.TheVariants as caller
-use Rattle.core_machine.specs.InnerTables.{known_at}
-use Rattle.core_machine.specs.InnerSeen.{SeesGeneration, SeesSplit, SeesAt}
-use Rattle.core_machine.specs.InnerCounted.{coming_at}
-use Rattle.core_machine.specs.InnerInvariant.{IsMade}
-use Rattle.core_machine.specs.InnerScene.{Scene, HoldsIn, scene_after}
+use Rattle.core_machine.specs.InnerInvariant.{HoldsIn}
+use Rattle.core_machine.specs.InnerScene.{Scene, scene_after, map_in}
 use Rattle.core_machine.proofs.ChangeLemmas.{index_below, word_by_granule}
 use Rattle.core_machine.proofs.WordLemmas.{Writes, writes_none, writes_one, IsOfBlock, is_lock, is_idle, is_generation, generations_left, index_at}
-use Rattle.core_machine.proofs.StepLemmas.{map_in}
 use Rattle.core_machine.proofs.ActLemmas.{Acting, IsAlike, lock_of_task, inside_of, seen_of, goes_quietly}
 use Rattle.core_machine.proofs.HolderLemmas.{holders_of, canonical_gives, own_index, holder_at, alone_there, tables_after}
 use Rattle.core_machine.proofs.LockActs.{ActKeeps}
 use Rattle.core_machine.proofs.LoadActs.{first_from, first_entries, load_keeps}
 use Rattle.core_machine.proofs.RaiseActs.{merging_step_of}
+use Rattle.core_machine.specs.InnerAgentCaller.{known_at, SeesGeneration, SeesSplit, SeesAt, coming_at}
+use Rattle.core_machine.specs.InnerCallers.{IsMade}
 
 -- ---- splitting
 

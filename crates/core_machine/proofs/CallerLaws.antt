@@ -12,13 +12,14 @@ use Rattle.delegate_ops.proofs.DecidingLemmas.{acts_inside}
 use Rattle.delegate_ops.proofs.AgentLemmas.{took_is_agent}
 use Rattle.delegate_ops.proofs.NextLemmas.{next_there}
 use Rattle.core_machine.specs.declared.caller.Caller.TheVariants as caller
-use Rattle.core_machine.specs.InnerLocks.{is_inside, holds}
 use Rattle.core_machine.specs.InnerCallerLaws.{ActsHavePlaces, ActsKeepTheirCaller, AgentsGoOn, WaitsHaveCauses}
 use Rattle.core_machine.proofs.ActLemmas.{lock_low, held_number}
 use Rattle.core_machine.proofs.LawLemmas.{took_leaves, act_low}
 use Rattle.core_machine.proofs.FitLemmas.{took_tasks}
 use Rattle.core_machine.proofs.OthersLemmas.{made_at_place}
 use Rattle.core_machine.proofs.RunLemmas.{some_or_none}
+use Rattle.core_machine.specs.InnerAgentCaller.{is_inside}
+use Rattle.core_machine.specs.InnerCallers.{holds}
 
 -- ---- places
 
@@ -45,13 +46,13 @@ agents_go_on a is left = rw (next_there a is, left) refl
 pub waits_have_causes : WaitsHaveCauses
 waits_have_causes g s c a t stands at locking under_way bit =
     let n = lock_number g.setup (address_of t) in
-    let made = made_at_place g s.first s.words s.callers c (caller.Agent a) stands.shape at in
+    let made = made_at_place g s c (caller.Agent a) stands at in
     let acts : idle_answer g t ≡ None = subst (λ (k : GeometryData). idle_answer k t ≡ None) made.0 (subst (HasActs a.geometry) under_way made.1.acts) in
     let low : n < 128 = lock_low g.setup (address_of t) stands.shape.geometry.setup (acts_inside g t acts) in
     elim (some_or_none (holds n) s.callers) [
       | inl none ↦ absurd (bit (stands.locks n low ∙ none))
       | inr some ↦
-          (let holder = held_number g s.callers some.0 n some.1 some.2 (made_at_place g s.first s.words s.callers some.0 some.1 stands.shape some.2) some.3 in
+          (let holder = held_number g s.callers some.0 n some.1 some.2 (made_at_place g s some.0 some.1 stands some.2) some.3 in
           let agent = holder.0 in (
             some.0,
             agent,

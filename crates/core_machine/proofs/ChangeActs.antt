@@ -27,19 +27,19 @@ use Rattle.delegate_ops.specs.Changing.{from_of, to_of, changed_word}
 use Rattle.delegate_ops.specs.InnerAgents.{AgentData, kept_changed, goes_to}
 use Rattle.delegate_ops.proofs.AgentLemmas.{at_stage}
 use Rattle.core_machine.specs.declared.caller.Caller.TheVariants as caller
-use Rattle.core_machine.specs.InnerSeen.{comes_before, SeesAll}
-use Rattle.core_machine.specs.InnerScene.{Scene, state_in, HoldsIn, scene_after}
+use Rattle.core_machine.specs.InnerScene.{Scene, state_in, scene_after, map_in}
 use Rattle.core_machine.proofs.ListLemmas.{one}
 use Rattle.core_machine.proofs.WordLemmas.{writes_one, generations_left, index_at}
 use Rattle.core_machine.proofs.OpenedLemmas.{opened_change}
 use Rattle.core_machine.proofs.ActLemmas.{Acting, inside_of, lock_of_task, mades_of, other_lock, closed_of, granule_closed, seen_of, goes_keeps}
 use Rattle.core_machine.proofs.LockActs.{ActKeeps}
 use Rattle.core_machine.specs.Scenarios.{map_at}
-use Rattle.core_machine.proofs.StepLemmas.{map_in}
 use Rattle.core_machine.proofs.OthersLemmas.{others_see}
 use Rattle.core_machine.proofs.HolderLemmas.{holders_of, canonical_gives, map_has, own_index, holder_at, holders_after, alone_there, others_agree}
 use Rattle.delegate_ops.specs.Script.{change_entry, granule_of_task}
 use Rattle.core_machine.specs.Facts.{generation_word}
+use Rattle.core_machine.specs.InnerAgentCaller.{comes_before, SeesAll}
+use Rattle.core_machine.specs.InnerInvariant.{HoldsIn}
 
 change_one : (word : ℕ) (b : Bool) → word + one b ≡ word + 0 + one b
 change_one word b = omega arith

@@ -16,11 +16,9 @@ use Rattle.history.specs.declared.call.Task.{Task}
 use Rattle.history.specs.declared.entry.Entry.{Entry}
 use Rattle.history.specs.declared.outcome.Outcome.{Outcome}
 use Rattle.delegate_ops.specs.InnerAgents.{task_of}
-use Rattle.core_machine.specs.InnerCallerLaws.{agent_tasks}
 use Rattle.core_machine.specs.declared.caller.Caller.{Caller}
 use Rattle.core_machine.specs.declared.caller.Caller.TheVariants as caller
-use Rattle.core_machine.specs.InnerCallers.{caller_next, caller_took, caller_answers}
-use Rattle.core_machine.specs.InnerInvariant.{IsMade}
+use Rattle.core_machine.specs.InnerCallers.{agent_tasks, caller_next, caller_took, caller_answers, IsMade}
 use Rattle.core_machine.specs.InnerMachine.{MachineData, InvariantFor, after_act_of, after_turn_of, after_turn, after_turns}
 use Rattle.core_machine.specs.InnerPlay.{caller_of, opening_of, played, outcome_of}
 use Rattle.core_machine.proofs.LawLemmas.{took_leaves}

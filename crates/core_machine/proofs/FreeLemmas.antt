@@ -25,10 +25,8 @@ use Rattle.delegate_ops.proofs.AgentLemmas.{idle_stage}
 use Rattle.delegate_ops.specs.InnerAgents.{AgentData, task_of}
 use Rattle.core_machine.specs.declared.caller.Caller.{Caller}
 use Rattle.core_machine.specs.declared.caller.Caller.TheVariants as caller
-use Rattle.core_machine.specs.InnerLocks.{is_inside, holds, LocksAreHeld}
-use Rattle.core_machine.specs.InnerTables.{known_at, holder_by, granule_under_way}
-use Rattle.core_machine.specs.InnerInvariant.{IsMade}
-use Rattle.core_machine.specs.InnerScene.{Scene, HoldsIn}
+use Rattle.core_machine.specs.InnerInvariant.{LocksAreHeld, HoldsIn}
+use Rattle.core_machine.specs.InnerScene.{Scene}
 use Rattle.core_machine.specs.Facts.{table_part, map_after}
 use Rattle.core_machine.proofs.LockLemmas.{some_pass}
 use Rattle.core_machine.proofs.OthersLemmas.{Holder as LockHolder, made_at_place, is_holder, holder_has, granule_address}
@@ -37,6 +35,8 @@ use Rattle.core_machine.proofs.ActLemmas.{lock_low}
 use Rattle.core_machine.proofs.ChangeLemmas.{index_inside}
 use Rattle.core_machine.proofs.OpeningLemmas.{word_back, holder_at}
 use Rattle.core_machine.proofs.PartLemmas.{part_apart, part_means}
+use Rattle.core_machine.specs.InnerAgentCaller.{is_inside, known_at, granule_under_way}
+use Rattle.core_machine.specs.InnerCallers.{holds, holder_by, IsMade}
 
 -- ---- addresses
 
@@ -130,7 +130,7 @@ words_told g s stands w i at =
           (λ d h there.
           let own = holder_at s.callers d h there in
           subst (IsAway g w) own.2
-          (caller_away g s.words s.callers d w own.0 stands.locks below clear own.1 (made_at_place g s.first s.words s.callers d own.0 stands.shape own.1))),
+          (caller_away g s.words s.callers d w own.0 stands.locks below clear own.1 (made_at_place g s d own.0 stands own.1))),
     )
 
 -- where no lock is held each word is canonical

@@ -34,16 +34,15 @@ use Rattle.delegate_ops.specs.InnerAgents.{AgentData, task_of, goes_to}
 use Rattle.delegate_ops.proofs.AgentLemmas.{at_stage, idle_stage}
 use Rattle.core_machine.specs.declared.caller.Caller.{Caller}
 use Rattle.core_machine.specs.declared.caller.Caller.TheVariants as caller
-use Rattle.core_machine.specs.InnerTables.{known_at, holder_by, AreTables}
-use Rattle.core_machine.specs.InnerLocks.{is_inside}
-use Rattle.core_machine.specs.InnerScene.{Scene, state_in}
-use Rattle.core_machine.specs.InnerInvariant.{IsMade}
+use Rattle.core_machine.specs.InnerScene.{Scene, state_in, map_in}
+use Rattle.core_machine.specs.InnerInvariant.{AreTables}
 use Rattle.core_machine.proofs.ChangeLemmas.{word_by_granule}
 use Rattle.core_machine.proofs.TableLemmas.{granule_within}
 use Rattle.core_machine.proofs.WordLemmas.{Writes, is_level1, words_left, number_by_block, index_at}
 use Rattle.core_machine.proofs.OthersLemmas.{is_holder}
-use Rattle.core_machine.proofs.StepLemmas.{map_in}
 use Rattle.core_machine.proofs.ActLemmas.{Acting, inside_of, lock_of_task, mades_of, other_lock}
+use Rattle.core_machine.specs.InnerAgentCaller.{known_at, is_inside}
+use Rattle.core_machine.specs.InnerCallers.{holder_by, IsMade}
 
 -- ---- blocks of 512 MB
 

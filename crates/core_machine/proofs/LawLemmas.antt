@@ -18,9 +18,9 @@ use Rattle.delegate_ops.proofs.AgentLemmas.{took_is_agent}
 use Rattle.delegate_ops.proofs.ScriptLemmas.{some_mapped, step_walks}
 use Rattle.core_machine.specs.declared.caller.Caller.{Caller}
 use Rattle.core_machine.specs.declared.caller.Caller.TheVariants as caller
-use Rattle.core_machine.specs.InnerCallers.{MayTake, caller_next}
-use Rattle.core_machine.specs.InnerInvariant.{IsMade}
-use Rattle.core_machine.specs.InnerScene.{Scene, HoldsIn}
+use Rattle.core_machine.specs.InnerCallers.{MayTake, caller_next, IsMade}
+use Rattle.core_machine.specs.InnerInvariant.{HoldsIn}
+use Rattle.core_machine.specs.InnerScene.{Scene}
 use Rattle.core_machine.specs.InnerLaw.{OneActKeeps, scene_acted}
 use Rattle.core_machine.proofs.OthersLemmas.{made_at_place}
 use Rattle.core_machine.proofs.ActLemmas.{Acting, lock_low}
@@ -210,7 +210,7 @@ acting_of s c a next (Some t) stands at made under_way e = record {
 pub actor_of : (g : GeometryData) (s : Scene) (c : ℕ) (x : Caller) (next : Act) → HoldsIn g s → slice_get s.callers c ≡ Some x → caller_next x ≡ Some next → Actor g s c x next
 actor_of g s c (caller.Cpu looks) next stands at e = absurd cc
 actor_of g s c (caller.Agent a) next stands at e =
-    let made = made_at_place g s.first s.words s.callers c (caller.Agent a) stands.shape at in
+    let made = made_at_place g s c (caller.Agent a) stands at in
     subst (λ (k : GeometryData). HoldsIn k s → IsMade k (caller.Agent a) → Actor k s c (caller.Agent a) next) made.0
     (λ stands_so made_so. acting_of s c a next (task_of a) stands_so at made_so refl e) stands made
 

@@ -24,12 +24,12 @@ use Rattle.delegate_ops.specs.Script.{CallEvent, AreCallEvents}
 use Rattle.core_machine.specs.declared.caller.Caller.{Caller}
 use Rattle.core_machine.specs.declared.caller.Caller.TheVariants as caller
 use Rattle.core_machine.specs.InnerCallers.{caller_answers, own_of}
-use Rattle.core_machine.specs.InnerHistory.{AreAllowed, IsHistoryOf}
 use Rattle.core_machine.proofs.AloneLemmas.{own_first}
 use Rattle.core_machine.proofs.HolderLemmas.{length_after}
 use Rattle.core_machine.proofs.EntryLemmas.{IsOwnEntry, call_allowed, IsPrefixFit, prefix_fits, prefix_allowed}
 use Rattle.delegate_ops.specs.InnerEntries.{entries_at}
 use Rattle.delegate_ops.specs.InnerScript.{HasWalked, IsPrefix}
+use Rattle.core_machine.specs.InnerInvariant.{AreAllowed, IsHistoryOf}
 
 -- ---- an entry that its call allows
 

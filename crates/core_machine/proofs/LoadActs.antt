@@ -42,15 +42,9 @@ use Rattle.delegate_ops.specs.InnerAgents.{AgentData, IsReadable, is_look, looke
 use Rattle.delegate_ops.proofs.DecidingLemmas.{acts_usable}
 use Rattle.delegate_ops.proofs.AgentLemmas.{at_stage, no_look_at}
 use Rattle.core_machine.specs.declared.caller.Caller.TheVariants as caller
-use Rattle.core_machine.specs.InnerLocks.{is_inside}
-use Rattle.core_machine.specs.InnerTables.{known_at, holder_by}
-use Rattle.core_machine.specs.InnerSeen.{comes_before, SeesGeneration, SeesSome, KnowsAt}
-use Rattle.core_machine.specs.InnerOpened.{open_at}
-use Rattle.core_machine.specs.InnerRaised.{is_due_at}
-use Rattle.core_machine.specs.InnerInvariant.{IsMade}
-use Rattle.core_machine.specs.InnerScene.{Scene, state_in, HoldsIn, scene_after}
+use Rattle.core_machine.specs.InnerInvariant.{HoldsIn}
+use Rattle.core_machine.specs.InnerScene.{Scene, state_in, scene_after, map_in}
 use Rattle.core_machine.proofs.TableLemmas.{word_readable}
-use Rattle.core_machine.proofs.StepLemmas.{map_in}
 use Rattle.core_machine.proofs.HolderLemmas.{canonical_gives, reads_own, map_has, holder_at, alone_there, tables_after, tables_stay}
 use Rattle.core_machine.proofs.WordLemmas.{writes_none}
 use Rattle.core_machine.proofs.CountedLemmas.{worn_counted}
@@ -59,6 +53,8 @@ use Rattle.core_machine.proofs.LockActs.{ActKeeps}
 use Rattle.core_machine.specs.Facts.{IsCounted}
 use Rattle.delegate_ops.specs.InnerEntries.{entries_at, known_entries, made_at}
 use Rattle.delegate_ops.specs.Script.{granule_of_task}
+use Rattle.core_machine.specs.InnerAgentCaller.{is_inside, known_at, comes_before, SeesGeneration, SeesSome, KnowsAt, open_at, is_due_at}
+use Rattle.core_machine.specs.InnerCallers.{holder_by, IsMade}
 
 -- ---- a load
 

@@ -26,19 +26,12 @@ use Rattle.delegate_ops.specs.InnerAgents.{AgentData, IsReadable, answered_first
 use Rattle.delegate_ops.proofs.AgentLemmas.{at_stage}
 use Rattle.core_machine.specs.declared.caller.Caller.{Caller}
 use Rattle.core_machine.specs.declared.caller.Caller.TheVariants as caller
-use Rattle.core_machine.specs.InnerCallers.{own_of, call_of}
-use Rattle.core_machine.specs.InnerLocks.{holds}
+use Rattle.core_machine.specs.InnerCallers.{own_of, call_of, holds, holder_by, Sees, open_by, is_due, known_answers, caller_tasks, IsMade}
 use Rattle.table_meaning.specs.Equation.{Whole}
 use Rattle.table_meaning.specs.Facts.{step_of}
-use Rattle.core_machine.specs.InnerTables.{known_at, holder_by}
 use Rattle.core_machine.proofs.HolderLemmas.{tables_whole}
-use Rattle.core_machine.specs.InnerSeen.{Sees}
-use Rattle.core_machine.specs.InnerOpened.{open_by}
-use Rattle.core_machine.specs.InnerRaised.{is_due}
-use Rattle.core_machine.specs.InnerCounted.{known_answers, caller_tasks}
-use Rattle.core_machine.specs.InnerAlone.{IsAlone}
-use Rattle.core_machine.specs.InnerInvariant.{IsMade}
-use Rattle.core_machine.specs.InnerScene.{Scene, state_in, HoldsIn, scene_after}
+use Rattle.core_machine.specs.InnerInvariant.{IsAlone, HoldsIn}
+use Rattle.core_machine.specs.InnerScene.{Scene, state_in, scene_after}
 use Rattle.core_machine.proofs.ListLemmas.{one, get_append}
 use Rattle.core_machine.proofs.LockLemmas.{holder_bit, take_free, take_held, release_held}
 use Rattle.core_machine.proofs.WordLemmas.{writes_one, generations_left}
@@ -50,6 +43,7 @@ use Rattle.core_machine.proofs.ActLemmas.{Acting, low_of, lock_of_task, others_s
 use Rattle.core_machine.specs.Facts.{IsCounted}
 use Rattle.delegate_ops.specs.Script.{lock_bit_of}
 use Rattle.delegate_ops.specs.InnerEntries.{made_at}
+use Rattle.core_machine.specs.InnerAgentCaller.{known_at}
 
 -- what an act keeps that is made at a stage
 abbrev pub ActKeeps : Scene → ℕ → AgentData → Task → Stage → Act → Type 0

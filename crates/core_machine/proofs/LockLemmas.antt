@@ -10,8 +10,9 @@ use Rattle.std.proofs.lemmas.Nat.Bits.{bit_at-lt}
 use Rattle.bit_locks.specs.Locks.{lock_bit}
 use Rattle.bit_locks.proofs.BitLemmas.{taken_bit, released_bit, mask_free}
 use Rattle.core_machine.specs.declared.caller.Caller.{Caller}
-use Rattle.core_machine.specs.InnerLocks.{holds, LocksAreHeld}
 use Rattle.core_machine.proofs.ListLemmas.{one, count_set}
+use Rattle.core_machine.specs.InnerCallers.{holds}
+use Rattle.core_machine.specs.InnerInvariant.{LocksAreHeld}
 
 -- one caller steps, and the words change with what it holds
 pub locks_keep : (words after : List ℕ) (callers : List Caller) (c : ℕ) (a x : Caller) → slice_get callers c ≡ Some a → LocksAreHeld words callers

@@ -24,20 +24,15 @@ use Rattle.history.specs.declared.call.Task.{Task}
 use Rattle.history.specs.declared.call.Answer.{Answer}
 use Rattle.delegate_ops.specs.InnerAgents.{AgentData, idle_answers}
 use Rattle.delegate_ops.proofs.ScriptLemmas.{fresh_walked}
-use Rattle.core_machine.specs.InnerOpened.{open_by, pairs_of}
-use Rattle.core_machine.specs.InnerSeen.{Sees}
-use Rattle.core_machine.specs.InnerRaised.{is_due}
-use Rattle.core_machine.specs.InnerCounted.{known_answers}
 use Rattle.core_machine.proofs.AloneLemmas.{undisturbed_empty}
 use Rattle.core_machine.proofs.OthersLemmas.{count_none}
 use Rattle.core_machine.proofs.LockActs.{idle_counted}
 use Rattle.core_machine.specs.declared.caller.Caller.{Caller}
 use Rattle.core_machine.specs.declared.caller.Caller.TheVariants as caller
-use Rattle.core_machine.specs.InnerCallers.{caller_next, caller_took, own_of, MayTake}
-use Rattle.core_machine.specs.InnerLocks.{holds}
-use Rattle.core_machine.specs.InnerInvariant.{IsMade, Invariant}
-use Rattle.core_machine.specs.InnerOpening.{IsFresh, AreStarting}
-use Rattle.core_machine.specs.InnerMachine.{MachineData, InvariantFor, after_act_of, act_entries_of, after_turn_of, turn_entries_of, after_turn, turn_entries, after_turns, entries_in}
+use Rattle.core_machine.specs.InnerCallers.{open_by, Sees, is_due, known_answers, caller_next, caller_took, own_of, MayTake, holds, IsMade, IsFresh}
+use Rattle.core_machine.specs.InnerInvariant.{pairs_of, HoldsIn}
+use Rattle.core_machine.specs.InnerOpening.{AreStarting}
+use Rattle.core_machine.specs.InnerMachine.{MachineData, scene_of, InvariantFor, after_act_of, act_entries_of, after_turn_of, turn_entries_of, after_turn, turn_entries, after_turns, entries_in}
 use Rattle.core_machine.proofs.ListLemmas.{one}
 use Rattle.core_machine.proofs.ToldLemmas.{idle_entries}
 use Rattle.core_machine.specs.InnerScene.{Scene}
@@ -48,10 +43,6 @@ use Rattle.core_machine.specs.Scenarios.{round_turns}
 use Rattle.delegate_ops.specs.InnerScript.{HasWalked}
 
 -- ---- one turn
-
--- a machine as a scene
-abbrev pub scene_of : List Gpi → MachineData → List Entry → Scene
-scene_of first m h = record { first = first; words = m.words; callers = m.callers; history = h }
 
 act_stands : (first : List Gpi) (m : MachineData) (h : List Entry) (c : ℕ) (a : Caller) (o : Option Act) → InvariantFor first m h → slice_get m.callers c ≡ Some a → caller_next a ≡ o
     → InvariantFor first (after_act_of m c a o) (h ++ act_entries_of m c a o)
@@ -159,7 +150,7 @@ fresh_counted g c k (caller.Cpu looks) u given is answered = absurd cc
 fresh_at : (g : GeometryData) (callers : List Caller) (c : ℕ) (x : Caller) → All (IsFresh g) callers → slice_get callers c ≡ Some x → IsFresh g x
 fresh_at g callers c x fresh_all at = subst (IsFresh g) (get_or_from_slice_get callers c x x at) (fresh_all c x (slice_get_within callers c x at))
 
-pub opening_invariant : (g : GeometryData) (first : List Gpi) (callers : List Caller) (words : List ℕ) → All (IsFresh g) callers → AreStarting g first words → Invariant g first words callers []
+pub opening_invariant : (g : GeometryData) (first : List Gpi) (callers : List Caller) (words : List ℕ) → All (IsFresh g) callers → AreStarting g first words → HoldsIn g (record { first = first; words = words; callers = callers; history = [] })
 opening_invariant g first callers words fresh_all starting = record {
   shape = record {
     geometry = starting.geometry;

@@ -16,12 +16,12 @@ use Rattle.delegate_ops.specs.Deciding.{address_of}
 use Rattle.delegate_ops.specs.InnerAgents.{AgentData, task_of}
 use Rattle.core_machine.specs.declared.caller.Caller.{Caller}
 use Rattle.core_machine.specs.declared.caller.Caller.TheVariants as caller
-use Rattle.core_machine.specs.InnerLocks.{is_inside, LocksAreHeld}
-use Rattle.core_machine.specs.InnerOpened.{open_at, open_by, pairs_of, OpenAreHeld}
-use Rattle.core_machine.specs.InnerInvariant.{IsMade}
+use Rattle.core_machine.specs.InnerInvariant.{LocksAreHeld, pairs_of, OpenAreHeld}
 use Rattle.core_machine.proofs.ListLemmas.{get_set, get_set_here}
 use Rattle.core_machine.proofs.OthersLemmas.{Holder, is_holder, other_number, same_granule}
 use Rattle.delegate_ops.specs.Script.{granule_of_task}
+use Rattle.core_machine.specs.InnerAgentCaller.{is_inside, open_at}
+use Rattle.core_machine.specs.InnerCallers.{open_by, IsMade}
 
 -- ---- the pairs of one granule
 

@@ -33,10 +33,11 @@ use Rattle.core_machine.specs.declared.caller.Caller.{Caller}
 use Rattle.core_machine.specs.declared.caller.Caller.TheVariants as caller
 use Rattle.core_machine.specs.Scenarios.{map_at}
 use Rattle.core_machine.specs.Facts.{map_after}
-use Rattle.core_machine.specs.InnerOpening.{IsFresh, AreStarting}
-use Rattle.core_machine.specs.InnerTables.{table_word, holder_by, AreTables}
+use Rattle.core_machine.specs.InnerOpening.{AreStarting}
 use Rattle.core_machine.proofs.TableLemmas.{granule_back}
 use Rattle.core_machine.proofs.ChangeLemmas.{index_inside, index_below}
+use Rattle.core_machine.specs.InnerCallers.{IsFresh, holder_by}
+use Rattle.core_machine.specs.InnerInvariant.{table_word, AreTables}
 
 -- ---- lists
 

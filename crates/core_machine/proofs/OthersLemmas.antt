@@ -19,14 +19,15 @@ use Rattle.delegate_ops.specs.InnerAgents.{AgentData, HasActs, task_of}
 use Rattle.delegate_ops.proofs.DecidingLemmas.{acts_usable, acts_inside}
 use Rattle.core_machine.specs.declared.caller.Caller.{Caller}
 use Rattle.core_machine.specs.declared.caller.Caller.TheVariants as caller
-use Rattle.core_machine.specs.InnerLocks.{is_inside, holds, LocksAreHeld}
-use Rattle.core_machine.specs.InnerSeen.{Sees}
-use Rattle.core_machine.specs.InnerInvariant.{IsMade, HasShape}
+use Rattle.core_machine.specs.InnerInvariant.{LocksAreHeld, HoldsIn}
+use Rattle.core_machine.specs.InnerScene.{Scene}
 use Rattle.core_machine.proofs.ListLemmas.{one}
 use Rattle.core_machine.proofs.LockLemmas.{some_pass}
 use Rattle.core_machine.proofs.TableLemmas.{granule_start, usable_aligned}
 use Rattle.core_machine.proofs.WordLemmas.{Writes, IsOfBlock, IsKept, generations_kept, sees_left, number_by_region}
 use Rattle.delegate_ops.specs.Script.{granule_of_task}
+use Rattle.core_machine.specs.InnerAgentCaller.{is_inside}
+use Rattle.core_machine.specs.InnerCallers.{holds, Sees, IsMade}
 
 -- ---- two holders of one lock
 
@@ -99,9 +100,9 @@ other_number g words callers c d a b t u held below mine theirs apart same =
     (subst (λ (n : ℕ). holds n (caller.Agent b) ≡ true) same (holder_has g callers d b u theirs)))
 
 -- what stands for a caller of the list
-pub made_at_place : (g : GeometryData) (first : List _) (words : List ℕ) (callers : List Caller) (d : ℕ) (y : Caller) → HasShape g first words callers → slice_get callers d ≡ Some y → IsMade g y
-made_at_place g first words callers d y shape at =
-    subst (IsMade g) (get_or_from_slice_get callers d y y at) (shape.made d y (slice_get_within callers d y at))
+pub made_at_place : (g : GeometryData) (s : Scene) (d : ℕ) (y : Caller) → HoldsIn g s → slice_get s.callers d ≡ Some y → IsMade g y
+made_at_place g s d y stands at =
+    subst (IsMade g) (get_or_from_slice_get s.callers d y y at) (stands.shape.made d y (slice_get_within s.callers d y at))
 
 -- an agent of the list that is inside a task is a holder
 pub is_holder : (g : GeometryData) (callers : List Caller) (d : ℕ) (b : AgentData) (u : Task) → slice_get callers d ≡ Some (caller.Agent b) → IsMade g (caller.Agent b) → task_of b ≡ Some u → is_inside b.stage ≡ true → Holder g callers d b u

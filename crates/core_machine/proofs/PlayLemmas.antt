@@ -23,8 +23,8 @@ use Rattle.history.specs.declared.call.Task.{Task}
 use Rattle.delegate_ops.specs.InnerAgents.{IsAgent, is_look, task_of, fresh}
 use Rattle.delegate_ops.proofs.AgentLemmas.{idle_few, idle_then_acts, locking_fits}
 use Rattle.core_machine.specs.declared.caller.Caller.{Caller}
-use Rattle.core_machine.specs.InnerCallers.{caller_next}
-use Rattle.core_machine.specs.InnerOpening.{IsFresh, AreStarting}
+use Rattle.core_machine.specs.InnerCallers.{caller_next, IsFresh}
+use Rattle.core_machine.specs.InnerOpening.{AreStarting}
 use Rattle.core_machine.specs.InnerMachine.{MachineData, InvariantFor, after_act_of, after_turn_of, after_turn, after_turns, entries_in}
 use Rattle.core_machine.specs.InnerPlay.{caller_of, opening_of, NamesCaller, played}
 use Rattle.core_machine.proofs.CallLemmas.{asks_no_looks}

@@ -41,16 +41,9 @@ use Rattle.delegate_ops.specs.Changing.{from_of, to_of, raised_at}
 use Rattle.delegate_ops.specs.InnerAgents.{AgentData, IsChangeOf, IsStage, number_of, task_of, kept_raised, merging_stage, merged_stage, raised_stage, goes_to}
 use Rattle.delegate_ops.proofs.AgentLemmas.{at_stage}
 use Rattle.core_machine.specs.declared.caller.Caller.TheVariants as caller
-use Rattle.core_machine.specs.InnerLocks.{is_inside}
-use Rattle.core_machine.specs.InnerOpened.{open_by, open_at}
-use Rattle.core_machine.specs.InnerSeen.{comes_before, SeesGeneration, SeesAll, SeesAt}
-use Rattle.core_machine.specs.InnerRaised.{is_due_at, is_around, is_due}
-use Rattle.core_machine.specs.InnerCounted.{coming_at}
-use Rattle.core_machine.specs.InnerInvariant.{IsMade}
-use Rattle.core_machine.specs.InnerScene.{Scene, state_in, HoldsIn, scene_after}
+use Rattle.core_machine.specs.InnerInvariant.{HoldsIn, AreTables}
+use Rattle.core_machine.specs.InnerScene.{Scene, state_in, scene_after, map_in}
 use Rattle.core_machine.proofs.ListLemmas.{one}
-use Rattle.core_machine.specs.InnerTables.{known_at, AreTables}
-use Rattle.core_machine.proofs.StepLemmas.{map_in}
 use Rattle.core_machine.proofs.HolderLemmas.{holders_of, holder_at, alone_there, tables_after, tables_stay}
 use Rattle.core_machine.proofs.WordLemmas.{Writes, writes_one, words_left, generation_left}
 use Rattle.core_machine.proofs.OthersLemmas.{region_at}
@@ -62,6 +55,8 @@ use Rattle.core_machine.proofs.LoadActs.{counts_from}
 use Rattle.core_machine.specs.Facts.{IsCounted, generation_word}
 use Rattle.delegate_ops.specs.InnerEntries.{entries_at, made_at}
 use Rattle.delegate_ops.specs.Script.{granule_of_task, entries_of}
+use Rattle.core_machine.specs.InnerAgentCaller.{is_inside, open_at, comes_before, SeesGeneration, SeesAll, SeesAt, is_due_at, is_around, coming_at, known_at}
+use Rattle.core_machine.specs.InnerCallers.{open_by, is_due, IsMade}
 
 -- ---- what a holder sees after its raise
 

@@ -19,15 +19,14 @@ use Rattle.delegate_ops.specs.InnerAgents.{AgentData, task_of}
 use Rattle.delegate_ops.proofs.DecidingLemmas.{acts_inside}
 use Rattle.core_machine.specs.declared.caller.Caller.{Caller}
 use Rattle.core_machine.specs.declared.caller.Caller.TheVariants as caller
-use Rattle.core_machine.specs.InnerLocks.{is_inside, LocksAreHeld}
-use Rattle.core_machine.specs.InnerSeen.{SeesGeneration}
-use Rattle.core_machine.specs.InnerRaised.{is_due_at, is_around, is_due, GenerationsCount}
-use Rattle.core_machine.specs.InnerInvariant.{IsMade}
+use Rattle.core_machine.specs.InnerInvariant.{LocksAreHeld, GenerationsCount}
 use Rattle.core_machine.proofs.ListLemmas.{one, count_set}
 use Rattle.core_machine.proofs.OthersLemmas.{Holder, is_holder, other_number, same_region, region_at, count_alone}
 use Rattle.core_machine.specs.Facts.{generation_word}
 use Rattle.delegate_ops.specs.Script.{granule_of_task}
 use Rattle.delegate_ops.specs.Changing.{raised}
+use Rattle.core_machine.specs.InnerAgentCaller.{is_inside, SeesGeneration, is_due_at, is_around}
+use Rattle.core_machine.specs.InnerCallers.{is_due, IsMade}
 
 pub generations_keep : (g : GeometryData) (words after : List ℕ) (callers : List Caller) (h : List Entry) (c : ℕ) (a x : Caller) (made : List Entry) → slice_get callers c ≡ Some a → GenerationsCount g words callers h
     → ((y : Size) (region : ℕ) → region < blocks_in_region y * g.setup.gigabytes

@@ -33,12 +33,9 @@ use Rattle.delegate_ops.specs.Script.{granule_of_task, Follows}
 use Rattle.delegate_ops.proofs.ScriptLemmas.{some_mapped}
 use Rattle.core_machine.specs.declared.caller.Caller.{Caller}
 use Rattle.core_machine.specs.declared.caller.Caller.TheVariants as caller
-use Rattle.core_machine.specs.InnerCallers.{caller_next, caller_answers}
-use Rattle.core_machine.specs.InnerLocks.{is_inside, holds}
-use Rattle.core_machine.specs.InnerRaised.{is_due_at, is_around, is_due}
-use Rattle.core_machine.specs.InnerCounted.{coming_at, caller_tasks}
-use Rattle.core_machine.specs.InnerInvariant.{IsMade}
-use Rattle.core_machine.specs.InnerMachine.{InvariantFor, entries_in}
+use Rattle.core_machine.specs.InnerCallers.{caller_next, caller_answers, holds, is_due, caller_tasks, IsMade, agent_tasks}
+use Rattle.core_machine.specs.InnerInvariant.{HoldsIn}
+use Rattle.core_machine.specs.InnerMachine.{InvariantFor, entries_in, scene_of}
 use Rattle.core_machine.specs.InnerPlay.{caller_of, opening_of, played, outcome_of, played_trace}
 use Rattle.core_machine.proofs.ListLemmas.{one, get_front}
 use Rattle.core_machine.proofs.LockLemmas.{holder_bit}
@@ -46,7 +43,7 @@ use Rattle.core_machine.proofs.OthersLemmas.{Holder, made_at_place, is_holder, h
 use Rattle.core_machine.proofs.WordLemmas.{number_by_region}
 use Rattle.core_machine.proofs.RaisedLemmas.{others_raised}
 use Rattle.core_machine.proofs.ActLemmas.{lock_low}
-use Rattle.core_machine.proofs.MachineLemmas.{turns_hold, scene_of}
+use Rattle.core_machine.proofs.MachineLemmas.{turns_hold}
 use Rattle.core_machine.proofs.TraceLemmas.{played_walked, trace_entries, trace_words, trace_answered, IsDone, done_stays, turns_taken, trace_known, trace_counts}
 use Rattle.core_machine.proofs.AnswerLemmas.{calls_cause, alone_told, worn_told}
 use Rattle.core_machine.proofs.FreeLemmas.{tables_told, words_told, whole_told}
@@ -55,13 +52,13 @@ use Rattle.delegate_ops.proofs.NextLemmas.{next_there}
 use Rattle.scenario_text.specs.declared.scenario.Look.{Look}
 use Rattle.core_machine.proofs.LegalLemmas.{HaveTasks, AreMade, made_legal, made_calls}
 use Rattle.core_machine.proofs.PlayLemmas.{turns_geometry}
-use Rattle.core_machine.specs.InnerCallerLaws.{agent_tasks}
 use Rattle.core_machine.proofs.FitLemmas.{took_tasks, turns_leave}
 use Rattle.core_machine.specs.Facts.{IsCounted, generation_word, FitsHistory}
 use Rattle.core_machine.specs.Trace.{TraceEvent, events_of, FollowsScript, HasEnded, IsTrace, answers_by, history_of}
 use Rattle.core_machine.specs.Scenarios.{first_map, geometry_of, task_of_ask, tasks_of, turns_in, first_words}
 use Rattle.core_machine.specs.Run.{IsRun}
-use Rattle.core_machine.specs.InnerScene.{Scene, HoldsIn}
+use Rattle.core_machine.specs.InnerScene.{Scene}
+use Rattle.core_machine.specs.InnerAgentCaller.{is_inside, is_due_at, is_around, coming_at}
 
 -- ---- tasks
 
@@ -156,7 +153,7 @@ generations_told g s stands y region within =
     elim (some_or_none (is_due y region) s.callers) [
       | inl none ↦ inl (omega (arith, stands.generations y region within, none))
       | inr some ↦
-          (let made = made_at_place g s.first s.words s.callers some.0 some.1 stands.shape some.2 in
+          (let made = made_at_place g s some.0 some.1 stands some.2 in
           let owner = due_holder g s.callers some.0 some.1 y region some.2 made some.3 in
           let holder = owner.2 in
           let pa = address_of owner.1 in
@@ -166,7 +163,7 @@ generations_told g s stands y region within =
           count_alone (is_due y region) s.callers some.0 (caller.Agent owner.0) holder.at
           (λ d z apart there.
           subst (λ (r : ℕ). is_due y r z ≡ false) owner.3
-          (others_raised g s.words s.callers some.0 d owner.0 owner.1 y z stands.locks low holder apart there (made_at_place g s.first s.words s.callers d z stands.shape there))) in
+          (others_raised g s.words s.callers some.0 d owner.0 owner.1 y z stands.locks low holder apart there (made_at_place g s d z stands there))) in
           let one_due : one (is_due y region (caller.Agent owner.0)) ≡ 1 = ap one owner.4 in
           let number : lock_number g.setup (region * size_bytes y) ≡ lock_number g.setup pa =
           number_by_region g.setup y (region * size_bytes y) pa (mul-div_cancel region (size_some y) ∙ sym region_is) in
@@ -204,7 +201,7 @@ pub locks_ended : (g : GeometryData) (s : Scene) (tasks : List (List Task)) → 
 locks_ended g s tasks stands have ended n below =
     stands.locks n below
     ∙ count_none (holds n) s.callers
-    (λ d x there. holds_none n g x (made_at_place g s.first s.words s.callers d x stands.shape there) (all_answered tasks s.callers d x have there ended))
+    (λ d x there. holds_none n g x (made_at_place g s d x stands there) (all_answered tasks s.callers d x have there ended))
 
 -- ---- causes
 
@@ -350,7 +347,7 @@ is_run s opening =
     subst (λ (h : List Entry). HoldsIn (geometry_of s) (scene_of (first_map s) (played s) h)) (sym (trace_entries (opening_of s) (turns_in s)))
     (subst (λ (g : GeometryData). HoldsIn g (scene_of (first_map s) (played s) (entries_in (opening_of s) (turns_in s)))) (turns_geometry (opening_of s) (turns_in s)) stands_so) in
     let made : AreMade (geometry_of s) (played s).callers = λ c a at.
-    (let is = made_at_place (geometry_of s) (first_map s) (played s).words (played s).callers c (caller.Agent a) stands.shape at in
+    (let is = made_at_place (geometry_of s) end c (caller.Agent a) stands at in
     (is.0, is.1, events_of c (played_trace s), played_walked s c a opening at)) in
     record {
       geometry = turns_geometry (opening_of s) (turns_in s);

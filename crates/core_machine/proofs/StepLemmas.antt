@@ -18,17 +18,9 @@ use Rattle.history.specs.Legality.{StateAllows}
 use Rattle.history.specs.Counts.{is_by, is_change, is_completion, region_of, count_of}
 use Rattle.history.proofs.HistoryLemmas.{state_after-append}
 use Rattle.core_machine.specs.declared.caller.Caller.{Caller}
-use Rattle.core_machine.specs.InnerCallers.{own_of, call_of}
-use Rattle.core_machine.specs.InnerTables.{AreTables}
-use Rattle.core_machine.specs.InnerLocks.{holds}
-use Rattle.core_machine.specs.InnerOpened.{OpenAreHeld}
-use Rattle.core_machine.specs.InnerSeen.{Sees}
-use Rattle.core_machine.specs.InnerRaised.{is_due}
-use Rattle.core_machine.specs.InnerAlone.{IsAlone}
-use Rattle.core_machine.specs.InnerCounted.{known_answers, caller_tasks}
-use Rattle.core_machine.specs.InnerHistory.{AreAllowed}
-use Rattle.core_machine.specs.InnerInvariant.{IsMade}
-use Rattle.core_machine.specs.InnerScene.{Scene, state_in, HoldsIn, scene_after}
+use Rattle.core_machine.specs.InnerCallers.{own_of, call_of, holds, Sees, is_due, known_answers, caller_tasks, IsMade}
+use Rattle.core_machine.specs.InnerInvariant.{AreTables, OpenAreHeld, IsAlone, AreAllowed, HoldsIn}
+use Rattle.core_machine.specs.InnerScene.{Scene, state_in, scene_after}
 use Rattle.core_machine.specs.Scenarios.{map_at}
 use Rattle.core_machine.specs.Facts.{IsCounted, AreUndisturbed, generation_word, is_on_block}
 use Rattle.core_machine.proofs.ListLemmas.{one, each_set}
@@ -51,10 +43,7 @@ abbrev pub added_to : GeometryData → Size → ℕ → Option Entry → ℕ
 added_to g y region None = 0
 added_to g y region (Some e) = one (is_change e && eqb (region_of (granule_bytes g.setup) y (granule_in e)) region)
 
--- the map before and after it
-abbrev pub map_in : Scene → ℕ → Gpi
-map_in s = map_at (state_in s).map
-
+-- the map after it
 abbrev pub map_next : Scene → Option Entry → ℕ → Gpi
 map_next s o = map_at (state_after (state_in s) (list_of o)).map
 

@@ -20,8 +20,8 @@ use Rattle.delegate_ops.specs.Deciding.{is_unusable, idle_answer}
 use Rattle.delegate_ops.specs.InnerAgents.{answered_first, idle_answers}
 use Rattle.core_machine.specs.declared.caller.Caller.{Caller}
 use Rattle.core_machine.specs.InnerCallers.{own_of}
-use Rattle.core_machine.specs.InnerHistory.{AreAllowed, IsHistoryOf}
 use Rattle.core_machine.proofs.ListLemmas.{get_set}
+use Rattle.core_machine.specs.InnerInvariant.{AreAllowed, IsHistoryOf}
 
 -- ---- what an act may add: nothing, or one entry of the call under way
 

@@ -32,21 +32,20 @@ use Rattle.core_machine.specs.declared.caller.Caller.TheVariants as caller
 use Rattle.core_machine.proofs.ListLemmas.{one, get_set, get_set_other}
 use Rattle.core_machine.proofs.OthersLemmas.{made_at_place}
 use Rattle.core_machine.proofs.LawLemmas.{one_act, actor_of, is_plain, IsOn, act_word}
-use Rattle.core_machine.proofs.MachineLemmas.{scene_of, turn_holds, turns_length}
+use Rattle.core_machine.proofs.MachineLemmas.{turn_holds, turns_length}
 use Rattle.core_machine.proofs.LockLemmas.{holder_bit, take_free, take_held, release_held}
 use Rattle.core_machine.proofs.ActLemmas.{Acting, lock_of_task, low_of}
 use Rattle.delegate_ops.proofs.AgentLemmas.{at_stage}
 use Rattle.core_machine.specs.Trace.{AreAnswered, TakesTurns, TraceEvent, events_of, history_of, words_after, releases, releases_by, takes, takes_by}
 use Rattle.delegate_ops.specs.Script.{CallEvent}
 use Rattle.delegate_ops.specs.InnerScript.{HasWalked}
-use Rattle.core_machine.specs.InnerInvariant.{IsMade}
-use Rattle.core_machine.specs.InnerMachine.{MachineData, InvariantFor, after_act_of, after_turn, after_turn_of, after_turns, event_of, entries_in, act_entries_of, trace_of, turn_event_of, turn_entries, turn_entries_of}
-use Rattle.core_machine.specs.InnerCallers.{caller_next, caller_took, made_by}
+use Rattle.core_machine.specs.InnerInvariant.{HoldsIn}
+use Rattle.core_machine.specs.InnerMachine.{scene_of, MachineData, InvariantFor, after_act_of, after_turn, after_turn_of, after_turns, event_of, entries_in, act_entries_of, trace_of, turn_event_of, turn_entries, turn_entries_of}
+use Rattle.core_machine.specs.InnerCallers.{IsMade, caller_next, caller_took, made_by, holds}
 use Rattle.core_machine.specs.InnerPlay.{caller_of, opening_of, played, played_trace}
 use Rattle.core_machine.specs.Scenarios.{first_map, geometry_of, task_of_ask, turns_in}
-use Rattle.core_machine.specs.InnerLocks.{holds}
 use Rattle.core_machine.proofs.WordLemmas.{is_lock, locks_left, writes_one}
-use Rattle.core_machine.specs.InnerScene.{HoldsIn, Scene}
+use Rattle.core_machine.specs.InnerScene.{Scene}
 
 -- ---- each caller's events
 
@@ -100,7 +99,7 @@ turn_comes : (first : List Gpi) (m : MachineData) (h : List Entry) (c d : ℕ) (
     → Comes m c b (events_of c (turn_event_of m d o))
 turn_comes first m h c d None b stands at there = stays_at m c b there
 turn_comes first m h c d (Some x) b stands at there =
-    act_comes m c d x (caller_next x) b at refl (made_at_place m.geometry first m.words m.callers d x stands.shape at) there
+    act_comes m c d x (caller_next x) b at refl (made_at_place m.geometry (scene_of first m h) d x stands at) there
 
 turns_come : (first : List Gpi) (m : MachineData) (h : List Entry) (turns : List ℕ) (c : ℕ) (b : AgentData) → InvariantFor first m h → slice_get (after_turns m turns).callers c ≡ Some (caller.Agent b)
     → Comes m c b (events_of c (trace_of m turns))

@@ -23,12 +23,10 @@ use Rattle.table_meaning.specs.Equation.{AreWords}
 use Rattle.table_meaning.proofs.FactLemmas.{facts_local}
 use Rattle.delegate_ops.specs.Deciding.{address_of}
 use Rattle.delegate_ops.specs.Script.{granule_of_task}
-use Rattle.core_machine.specs.InnerLocks.{is_inside}
-use Rattle.core_machine.specs.InnerSeen.{SeesAt}
-use Rattle.core_machine.specs.InnerTables.{known_at}
 use Rattle.core_machine.specs.InnerInvariant.{AreIdle}
 use Rattle.core_machine.specs.Facts.{generation_word}
 use Rattle.core_machine.proofs.ChangeLemmas.{index_below}
+use Rattle.core_machine.specs.InnerAgentCaller.{is_inside, SeesAt, known_at}
 
 -- ---- the word that is written
 

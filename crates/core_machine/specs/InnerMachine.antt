@@ -7,7 +7,8 @@ use Rattle.shared_words.specs.Acts.{answer_of, after_act}
 use Rattle.history.specs.declared.entry.Entry.{Entry}
 use Rattle.core_machine.specs.declared.caller.Caller.{Caller}
 use Rattle.core_machine.specs.InnerCallers.{caller_next, caller_took, made_by}
-use Rattle.core_machine.specs.InnerInvariant.{Invariant}
+use Rattle.core_machine.specs.InnerScene.{Scene}
+use Rattle.core_machine.specs.InnerInvariant.{HoldsIn}
 use Rattle.core_machine.specs.Trace.{TraceEvent}
 
 pub record MachineData : Type 0 where
@@ -18,9 +19,14 @@ pub record MachineData : Type 0 where
 abbrev pub machine_of : GeometryData → List Caller → List ℕ → MachineData
 machine_of g callers words = record { geometry = g; callers = callers; words = words }
 
+-- a machine as a scene
+abbrev pub scene_of : List Gpi → MachineData → List Entry → Scene
+scene_of first m h =
+    record { first = first; words = m.words; callers = m.callers; history = h }
+
 -- the machine has the invariant with a history from a first map
 abbrev pub InvariantFor : List Gpi → MachineData → List Entry → Type 0
-InvariantFor first m h = Invariant m.geometry first m.words m.callers h
+InvariantFor first m h = HoldsIn m.geometry (scene_of first m h)
 
 -- with some history
 abbrev pub HasInvariant : MachineData → Type 0
