@@ -35,7 +35,6 @@ use Rattle.core_machine.specs.InnerOpening.{AreStarting}
 use Rattle.core_machine.specs.InnerMachine.{MachineData, scene_of, InvariantFor, after_act_of, act_entries_of, after_turn_of, turn_entries_of, after_turn, turn_entries, after_turns, entries_in}
 use Rattle.core_machine.proofs.ListLemmas.{one}
 use Rattle.core_machine.proofs.ToldLemmas.{idle_entries}
-use Rattle.core_machine.specs.InnerScene.{Scene}
 use Rattle.core_machine.proofs.LawLemmas.{one_act}
 use Rattle.core_machine.proofs.OpeningLemmas.{opening_tables}
 use Rattle.core_machine.specs.Facts.{IsCounted, map_after}

@@ -1,6 +1,6 @@
 -- What a machine of running words needs to know of callers, beside the law of one act: over plain
 -- data, with no history.
-use Rattle.std.specs.Prelude.{◌≡◌, ◌≢◌, ℕ, ◌<◌, true, false, is_some, List, slice_get, Option, Some, None}
+use Rattle.std.specs.Prelude.{◌≡◌, ◌≢◌, ℕ, ◌<◌, true, false, is_some, slice_get, Some}
 use Rattle.gpt_descriptors.specs.Places.{GeometryData, word_count}
 use Rattle.shared_words.specs.declared.act.Act.{Act}
 use Rattle.shared_words.specs.Acts.{place_in}
