@@ -1,7 +1,7 @@
 -- What a history says of calls without an answer, and the causes of the answers without acts.
-use Rattle.std.proofs.Common.{◌≡◌, ℕ, zero, suc, ◌+◌, ◌*◌, ◌/◌, ◌<◌, ◌≤◌, ◌++◌, ◌∷◌, [], List, Bool, true, false, ◌&&◌, eqb, map, length, Option, Some, None, refl, sym, ap, ◌∙◌, subst, arith, inl, inr}
+use Rattle.std.proofs.Common.{◌≡◌, ℕ, zero, suc, ◌+◌, ◌/◌, ◌<◌, ◌≤◌, ◌++◌, ◌∷◌, [], List, Bool, true, false, ◌&&◌, eqb, map, length, Option, Some, None, refl, sym, ap, ◌∙◌, subst, arith, inl, inr}
 use Rattle.std.specs.Prelude.{slice_get, MatchOption}
-use Rattle.std.specs.List.{All, find, list_any}
+use Rattle.std.specs.List.{All, list_any}
 use Rattle.std.specs.Option.{option_map}
 use Rattle.std.proofs.lemmas.Bool.{cases_Bool, eqb-true, eq-eqb, and_parts, and_right, or_cases, or_parts}
 use Rattle.std.proofs.lemmas.List.Elements.{All-nil, All-head, All-tail, All-append}
@@ -11,7 +11,6 @@ use Rattle.gpi_values.specs.declared.gpi.Gpi.{Gpi}
 use Rattle.gpi_values.specs.declared.gpi.Gpi.TheVariants as gpi
 use Rattle.gpi_values.specs.Values.{own_of as of_source, value_of}
 use Rattle.gpt_descriptors.specs.declared.size.Size.{Size}
-use Rattle.gpt_descriptors.specs.declared.size.Size.TheVariants as size
 use Rattle.gpt_descriptors.specs.Sizes.{SetupData, granule_bytes}
 use Rattle.gpt_descriptors.specs.Entries.{word_gpi}
 use Rattle.gpt_descriptors.specs.Places.{GeometryData}
@@ -31,14 +30,14 @@ use Rattle.core_machine.specs.declared.caller.Caller.{Caller}
 use Rattle.core_machine.specs.declared.caller.Caller.TheVariants as caller
 use Rattle.std.proofs.lemmas.Option.{slice_get_cases}
 use Rattle.core_machine.proofs.LegalLemmas.{HaveTasks, AreMade}
-use Rattle.core_machine.proofs.EntryLemmas.{IsOwnEntry, FitsAnswer, decided_fits, prefix_fits, prefix_allowed}
+use Rattle.core_machine.proofs.EntryLemmas.{refused_is, IsOwnEntry, FitsAnswer, decided_fits, prefix_fits, prefix_allowed}
 use Rattle.core_machine.proofs.AloneLemmas.{all_middle, any_weaker, any_one, later_number, all_two}
 use Rattle.core_machine.proofs.ListLemmas.{all_one}
-use Rattle.core_machine.proofs.OthersLemmas.{granule_address}
+use Rattle.delegate_ops.proofs.ScriptLemmas.{some_mapped}
 use Rattle.core_machine.proofs.ActLemmas.{on_number}
 use Rattle.core_machine.specs.Facts.{AreAlone, AreWorn, IsCounted, is_on_block}
 use Rattle.delegate_ops.specs.Script.{AreCallEvents, CallEvent, Decides, IsCall, change_entry, completion, entries_of, granule_of_task}
-use Rattle.delegate_ops.specs.Deciding.{HasCause, address_of, generation_in, granule_place, idle_answer, is_decided, is_needed, refusal_of}
+use Rattle.delegate_ops.specs.Deciding.{HasCause, address_of, generation_in, granule_place, idle_answer, is_decided}
 use Rattle.delegate_ops.specs.InnerScript.{IsPrefix}
 use Rattle.core_machine.specs.InnerScene.{Scene}
 use Rattle.history.specs.Calls.{answer_at, answered_entries, entries_by}
@@ -46,28 +45,16 @@ use Rattle.history.specs.Entries.{call_in, caller_in, granule_in}
 use Rattle.core_machine.specs.InnerCallers.{caller_answers, own_of, known_answers, holds}
 use Rattle.delegate_ops.specs.InnerEntries.{entries_at, entries_before}
 use Rattle.history.specs.Legality.{granule_of, needed}
-use Rattle.history.specs.Counts.{is_by, is_worn}
+use Rattle.history.specs.Counts.{is_by}
 use Rattle.core_machine.specs.InnerInvariant.{IsAlone, HoldsIn, IsHistoryOf}
 use Rattle.core_machine.specs.InnerAgentCaller.{coming_at, is_inside}
+use Rattle.core_machine.proofs.AddressLemmas.{lock_of, task_lock}
 
 -- ---- causes
 
-refusal_cause : (t : Task) (o : Option Gpi) (a : Answer) → refusal_of t o ≡ Some a → is_decided a ≡ true
-refusal_cause t None a refused = absurd cc
-refusal_cause t (Some found) a refused =
-    elim (cases_Bool (is_needed (needed t) found)) [
-      | inl same ↦ absurd (let both = rw same at refused in cc)
-      | inr other ↦ subst (λ (x : Answer). is_decided x ≡ true) (let both = rw other at refused in let is : answer.Perm found ≡ a = cc in is) refl
-    ]
-
-worn_cause : (o : Option Size) (f : Size → ℕ) (a : Answer) → option_map (λ z. answer.Worn z (f z)) o ≡ Some a → is_decided a ≡ true
-worn_cause None f a worn = absurd cc
-worn_cause (Some z) f a worn = subst (λ (x : Answer). is_decided x ≡ true) (let is : answer.Worn z (f z) ≡ a = cc in is) refl
-
 decided_cause : (g : GeometryData) (c n : ℕ) (t : Task) (given : Answer) (events : List CallEvent) → Decides g c n t given events → is_decided given ≡ true
-decided_cause g c n t given events (inl refused) = refusal_cause t (word_gpi refused.word (granule_place g (address_of t))) given refused.refused
-decided_cause g c n t given events (inr (inl worn)) =
-    worn_cause (find (λ z. is_worn (generation_in z worn.generations)) (size.Two ∷ size.ThirtyTwo ∷ size.FiveTwelve ∷ [])) (λ z. generation_in z worn.generations) given worn.worn
+decided_cause g c n t given events (inl refused) = ap is_decided (refused_is t (word_gpi refused.word (granule_place g (address_of t))) given refused.refused).3
+decided_cause g c n t given events (inr (inl worn)) = ap is_decided (sym (some_mapped (λ (z : Size). answer.Worn z (generation_in z worn.generations)) _ given worn.worn).2)
 decided_cause g c n t given events (inr (inr done)) = subst (λ (x : Answer). is_decided x ≡ true) (sym done.is) refl
 
 call_cause : (g : GeometryData) (c n : ℕ) (t : Task) (o : Option Answer) (given : Answer) (events : List CallEvent) → IsCall g c n t o given events → MatchOption o (is_decided given ≡ true) (λ idle. given ≡ idle)
@@ -223,7 +210,7 @@ alone_of s before after e c k n a stands at way parts by =
     let on = (and_parts (is_by c k way.entry) (is_on_block g.setup n way.entry) way.passes).1 in
     let granule = task_granule g way.task (granule_in way.entry) way.granule in
     let number : lock_number g.setup (address_of way.task) ≡ n =
-    ap (lock_number g.setup) (sym (granule_address g way.task way.acts) ∙ ap (λ (x : ℕ). x * granule_bytes g.setup) (sym granule)) ∙ on_number g.setup n way.entry on in
+    sym (task_lock g way.task way.acts) ∙ ap (lock_of g.setup) (sym granule) ∙ on_number g.setup n way.entry on in
     let inside = inside_by g c (length a.answers) a.stage way.task (on_block_of g.setup c k n) way.some in
     let has : holds n (caller.Agent a) ≡ true = rw (inside, way.next) (eq-eqb (lock_number g.setup (address_of way.task)) n number) in
     let alone : IsAlone g.setup n c k s.history = subst (λ (m : ℕ). IsAlone g.setup n c m s.history) (sym way.number) (stands.alone c n (caller.Agent a) at has) in

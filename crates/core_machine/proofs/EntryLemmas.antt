@@ -1,7 +1,6 @@
 -- The entries of a call are allowed by its task and its answer.
 use Rattle.std.proofs.Common.{◌≡◌, ℕ, ◌/◌, ◌<◌, ◌++◌, ◌∷◌, [], List, true, false, eqb, Option, Some, None, length, take, refl, sym, ap, ◌∙◌, subst, arith, inl, inr}
-use Rattle.std.specs.List.{All, find}
-use Rattle.std.specs.Option.{option_map}
+use Rattle.std.specs.List.{All}
 use Rattle.std.proofs.lemmas.Bool.{cases_Bool, eq-eqb}
 use Rattle.std.proofs.lemmas.List.{take_all}
 use Rattle.std.proofs.lemmas.List.Elements.{All-nil, All-cons, All-append, All-take}
@@ -21,22 +20,22 @@ use Rattle.history.specs.declared.call.Answer.TheVariants as answer
 use Rattle.history.specs.declared.entry.Entry.{Entry}
 use Rattle.history.specs.declared.entry.Entry.TheVariants as entry
 use Rattle.history.specs.Entries.{granule_in, caller_in, call_in}
-use Rattle.history.specs.Counts.{is_worn}
 use Rattle.history.specs.Legality.{granule_of, needed, is_transition, IsChange, CallAllows}
 use Rattle.history.specs.Calls.{call_entries}
 use Rattle.delegate_ops.specs.declared.stage.Change.{Change}
 use Rattle.delegate_ops.specs.declared.stage.Change.TheVariants as change
 use Rattle.delegate_ops.specs.declared.stage.Stage.{Stage}
 use Rattle.delegate_ops.specs.declared.stage.Stage.TheVariants as stage
-use Rattle.delegate_ops.specs.Deciding.{address_of, idle_answer, granule_place, is_needed, refusal_of, generation_in}
+use Rattle.delegate_ops.specs.Deciding.{address_of, idle_answer, granule_place, is_needed, refusal_of, generation_in, worn_answer}
 use Rattle.delegate_ops.specs.InnerAgents.{IsChangeOf, IsStage}
 use Rattle.delegate_ops.specs.Script.{CallEvent, Decides, IsCall, change_entry}
 use Rattle.delegate_ops.proofs.DecidingLemmas.{acts_inside}
+use Rattle.delegate_ops.proofs.ScriptLemmas.{some_mapped}
 use Rattle.core_machine.proofs.ListLemmas.{all_one}
-use Rattle.core_machine.proofs.TableLemmas.{granule_within}
 use Rattle.core_machine.proofs.ToldLemmas.{idle_quiet}
 use Rattle.delegate_ops.specs.InnerEntries.{entries_at, entries_before}
 use Rattle.delegate_ops.specs.InnerScript.{IsPrefix}
+use Rattle.core_machine.proofs.AddressLemmas.{granule_within}
 
 -- ---- granules inside the space
 
@@ -102,24 +101,27 @@ fitting_allowed g c k t a acts fits = All-nil (IsOwnEntry g c k t a)
 
 -- ---- what a transition is answered
 
-refused_fits : (t : Task) (o : Option Gpi) (a : Answer) → refusal_of t o ≡ Some a → FitsAnswer t a
-refused_fits t None a refused = absurd cc
-refused_fits t (Some found) a refused =
+-- a refusal is by a GPI that isn't the needed one
+pub refused_is : (t : Task) (o : Option Gpi) (a : Answer) → refusal_of t o ≡ Some a → (found : Gpi) × (o ≡ Some found) × (is_needed (needed t) found ≡ false) × (a ≡ answer.Perm found)
+refused_is t None a refused = absurd cc
+refused_is t (Some found) a refused =
     elim (cases_Bool (is_needed (needed t) found)) [
       | inl same ↦ absurd (let both = rw same at refused in cc)
-      | inr other ↦ subst (FitsAnswer t) (let both = rw other at refused in let is : answer.Perm found ≡ a = cc in is) other
+      | inr other ↦ (found, refl, other, let both = rw other at refused in cc)
     ]
 
-worn_fits : (t : Task) (o : Option Size) (f : Size → ℕ) (a : Answer) → option_map (λ z. answer.Worn z (f z)) o ≡ Some a → FitsAnswer t a
-worn_fits t None f a worn = absurd cc
-worn_fits t (Some z) f a worn = subst (FitsAnswer t) (let is : answer.Worn z (f z) ≡ a = cc in is) tt
+refused_fits : (t : Task) (o : Option Gpi) (a : Answer) → refusal_of t o ≡ Some a → FitsAnswer t a
+refused_fits t o a refused = let by = refused_is t o a refused in subst (FitsAnswer t) (sym by.3) by.2
+
+worn_fits : (t : Task) (k : Generations) (a : Answer) → worn_answer k ≡ Some a → FitsAnswer t a
+worn_fits t k a worn = let by = some_mapped (λ (z : Size). answer.Worn z (generation_in z k)) _ a worn in subst (FitsAnswer t) by.2 tt
 
 pub decided_fits : (g : GeometryData) (c k : ℕ) (t : Task) (given : Answer) (events : List CallEvent) → Decides g c k t given events → FitsAnswer t given
 decided_fits g c k t given events decided =
     elim decided [
       | inl refused ↦ refused_fits t (word_gpi refused.word (granule_place g (address_of t))) given refused.refused
       | inr later ↦ elim later [
-        | inl worn ↦ worn_fits t (find (λ z. is_worn (generation_in z worn.generations)) (size.Two ∷ size.ThirtyTwo ∷ size.FiveTwelve ∷ [])) (λ z. generation_in z worn.generations) given worn.worn
+        | inl worn ↦ worn_fits t worn.generations given worn.worn
         | inr done ↦ subst (FitsAnswer t) (sym done.is) tt
       ]
     ]

@@ -22,17 +22,15 @@ use Rattle.core_machine.specs.InnerCallers.{MayTake, caller_next, IsMade}
 use Rattle.core_machine.specs.InnerInvariant.{HoldsIn}
 use Rattle.core_machine.specs.InnerScene.{Scene}
 use Rattle.core_machine.specs.InnerLaw.{OneActKeeps, scene_acted}
-use Rattle.core_machine.proofs.OthersLemmas.{made_at_place}
-use Rattle.core_machine.proofs.ActLemmas.{Acting, lock_low}
+use Rattle.core_machine.proofs.ActLemmas.{Acting}
 use Rattle.core_machine.proofs.LockActs.{ActKeeps, take_keeps, release_keeps}
 use Rattle.core_machine.proofs.LoadActs.{look_keeps, read_keeps}
 use Rattle.core_machine.proofs.ChangeActs.{change_keeps}
 use Rattle.core_machine.proofs.RaiseActs.{raise_keeps}
 use Rattle.core_machine.proofs.BlockActs.{split_place, split_keeps, merge_keeps}
-use Rattle.core_machine.proofs.ChangeLemmas.{index_below, word_by_granule}
 use Rattle.delegate_ops.specs.Script.{lock_bit_of, granule_of_task}
 use Rattle.delegate_ops.specs.InnerEntries.{made_at}
-use Rattle.core_machine.proofs.WordLemmas.{index_at, is_lock}
+use Rattle.core_machine.proofs.WordLemmas.{is_lock}
 use Rattle.gpt_descriptors.proofs.PlaceLemmas.{generation_named, index_within, place_below}
 use Rattle.delegate_ops.proofs.DecidingLemmas.{acts_inside}
 use Rattle.gpi_values.specs.declared.gpi.Gpi.{Gpi}
@@ -52,6 +50,8 @@ use Rattle.shatter.specs.Splitting.{store_of}
 use Rattle.fuse.specs.Merging as fuse
 use Rattle.gpt_descriptors.specs.declared.size.Size.{Size}
 use Rattle.history.specs.declared.call.Answer.{Answer}
+use Rattle.core_machine.proofs.CallerLemmas.{made_at_place}
+use Rattle.core_machine.proofs.AddressLemmas.{lock_low, index_below, word_by_granule, index_at}
 
 -- ---- an agent after an act was made as before
 

@@ -25,7 +25,7 @@ use Rattle.core_machine.specs.declared.caller.Caller.{Caller}
 use Rattle.core_machine.specs.declared.caller.Caller.TheVariants as caller
 use Rattle.core_machine.specs.InnerCallers.{caller_answers, own_of}
 use Rattle.core_machine.proofs.AloneLemmas.{own_first}
-use Rattle.core_machine.proofs.HolderLemmas.{length_after}
+use Rattle.core_machine.proofs.ActLemmas.{length_after}
 use Rattle.core_machine.proofs.EntryLemmas.{IsOwnEntry, call_allowed, IsPrefixFit, prefix_fits, prefix_allowed}
 use Rattle.delegate_ops.specs.InnerEntries.{entries_at}
 use Rattle.delegate_ops.specs.InnerScript.{HasWalked, IsPrefix}

@@ -1,45 +1,19 @@
 -- Turns: what they keep.
-use Rattle.std.proofs.Common.{◌≡◌, ℕ, take, replicate, ◌<◌, ◌++◌, ◌∷◌, [], List, zero, suc, get_or, set, ◌+◌, ◌/◌, ◌%◌, true, false, Option, Some, None, length, refl, sym, ap, ◌∙◌, subst, arith, append_assoc, append-nil}
+use Rattle.std.proofs.Common.{◌≡◌, ℕ, take, replicate, ◌<◌, ◌++◌, ◌∷◌, [], List, zero, suc, get_or, set, ◌+◌, Option, Some, None, length, refl, sym, ap, ◌∙◌, subst, arith, append_assoc, append-nil}
 use Rattle.std.specs.Prelude.{slice_get}
-use Rattle.std.specs.Int.{bit_at}
-use Rattle.std.specs.List.{All, count_by}
 use Rattle.std.specs.List.{flat_map, range_with_len}
 use Rattle.std.proofs.lemmas.List.Concat.{flat_map-cons}
 use Rattle.std.proofs.lemmas.Grind.{flat_map-append}
 use Rattle.std.proofs.lemmas.List.{set-get_or, length-set, replicate-append-replicate, take_more}
-use Rattle.std.proofs.lemmas.List.Sums.{sum_by-cons}
-use Rattle.std.proofs.lemmas.List.Elements.{All-head, All-tail, All-nil, All-weaker}
-use Rattle.std.proofs.lemmas.Nat.Bits.{bit_at-zero}
-use Rattle.std.proofs.lemmas.Option.{slice_get_within, get_or_from_slice_get}
 use Rattle.gpi_values.specs.declared.gpi.Gpi.{Gpi}
-use Rattle.gpt_descriptors.specs.declared.size.Size.{Size}
-use Rattle.gpt_descriptors.specs.Sizes.{granule_bytes}
-use Rattle.gpt_descriptors.specs.Places.{GeometryData}
 use Rattle.shared_words.specs.declared.act.Act.{Act}
 use Rattle.shared_words.specs.Acts.{place_in, answer_of, after_act, said}
 use Rattle.history.specs.declared.entry.Entry.{Entry}
-use Rattle.history.specs.Entries.{caller_in}
-use Rattle.history.specs.Calls.{answered_entries}
-use Rattle.history.specs.declared.call.Task.{Task}
-use Rattle.history.specs.declared.call.Answer.{Answer}
-use Rattle.delegate_ops.specs.InnerAgents.{AgentData, idle_answers}
-use Rattle.delegate_ops.proofs.ScriptLemmas.{fresh_walked}
-use Rattle.core_machine.proofs.AloneLemmas.{undisturbed_empty}
-use Rattle.core_machine.proofs.OthersLemmas.{count_none}
-use Rattle.core_machine.proofs.LockActs.{idle_counted}
 use Rattle.core_machine.specs.declared.caller.Caller.{Caller}
-use Rattle.core_machine.specs.declared.caller.Caller.TheVariants as caller
-use Rattle.core_machine.specs.InnerCallers.{open_by, Sees, is_due, known_answers, caller_next, caller_took, own_of, MayTake, holds, IsMade, IsFresh}
-use Rattle.core_machine.specs.InnerInvariant.{pairs_of, HoldsIn}
-use Rattle.core_machine.specs.InnerOpening.{AreStarting}
+use Rattle.core_machine.specs.InnerCallers.{caller_next, caller_took, MayTake}
 use Rattle.core_machine.specs.InnerMachine.{MachineData, scene_of, InvariantFor, after_act_of, act_entries_of, after_turn_of, turn_entries_of, after_turn, turn_entries, after_turns, entries_in}
-use Rattle.core_machine.proofs.ListLemmas.{one}
-use Rattle.core_machine.proofs.ToldLemmas.{idle_entries}
 use Rattle.core_machine.proofs.LawLemmas.{one_act}
-use Rattle.core_machine.proofs.OpeningLemmas.{opening_tables}
-use Rattle.core_machine.specs.Facts.{IsCounted, map_after}
 use Rattle.core_machine.specs.Scenarios.{round_turns}
-use Rattle.delegate_ops.specs.InnerScript.{HasWalked}
 
 -- ---- one turn
 
@@ -95,86 +69,6 @@ turns_hold first m h (c ∷ turns) stands =
 pub after_turns-append : (m : MachineData) (xs ys : List ℕ) → after_turns m (xs ++ ys) ≡ after_turns (after_turns m xs) ys
 after_turns-append m [] ys = refl
 after_turns-append m (c ∷ xs) ys = after_turns-append (after_turn m c) xs ys
-
--- ---- before the first act
-
-fresh_holds : (g : GeometryData) (n : ℕ) (x : Caller) → IsFresh g x → holds n x ≡ false
-fresh_holds g n (caller.Agent a) is = ap (λ (b : AgentData). holds n (caller.Agent b)) is.0
-fresh_holds g n (caller.Cpu looks) is = refl
-
-none_holds : (n : ℕ) (callers : List Caller) → All (λ x. holds n x ≡ false) callers → count_by (holds n) callers ≡ 0
-none_holds n [] none = refl
-none_holds n (x ∷ callers) none =
-    let counted : count_by (holds n) (x ∷ callers) ≡ one (holds n x) + count_by (holds n) callers = sum_by-cons (λ y. one (holds n y)) x callers in
-    let first : one (holds n x) ≡ 0 = ap one (All-head (λ y. holds n y ≡ false) x callers none) in
-    omega (arith, counted, first, none_holds n callers (All-tail (λ y. holds n y ≡ false) x callers none))
-
-fresh_made : (g : GeometryData) (x : Caller) → IsFresh g x → IsMade g x
-fresh_made g (caller.Agent a) is =
-    (ap (λ (b : AgentData). b.geometry) is.0, is.1, 0, [], subst (λ (b : AgentData). HasWalked 0 b []) (sym is.0) (fresh_walked g a.tasks 0))
-fresh_made g (caller.Cpu looks) is = tt
-
-fresh_own : (g : GeometryData) (c : ℕ) (x : Caller) → IsFresh g x → own_of c x ≡ []
-fresh_own g c (caller.Agent a) is =
-    ap (λ (b : AgentData). own_of c (caller.Agent b)) is.0
-    ∙ append-nil (answered_entries (granule_bytes g.setup) c 0 a.tasks (idle_answers g a.tasks))
-    ∙ idle_entries g (granule_bytes g.setup) c 0 a.tasks
-fresh_own g c (caller.Cpu looks) is = refl
-
-fresh_open : (g : GeometryData) (x : Caller) → IsFresh g x → open_by x ≡ []
-fresh_open g (caller.Agent a) is = ap (λ (b : AgentData). open_by (caller.Agent b)) is.0
-fresh_open g (caller.Cpu looks) is = refl
-
-none_open : (g : GeometryData) (callers : List Caller) → All (IsFresh g) callers → flat_map open_by callers ≡ []
-none_open g [] fresh_all = refl
-none_open g (x ∷ callers) fresh_all =
-    flat_map-cons open_by x callers
-    ∙ rw (fresh_open g x (All-head (IsFresh g) x callers fresh_all)) (none_open g callers (All-tail (IsFresh g) x callers fresh_all))
-
-fresh_sees : (g : GeometryData) (m : ℕ → Gpi) (words : List ℕ) (x : Caller) → IsFresh g x → Sees m words x
-fresh_sees g m words (caller.Agent a) is = subst (λ (b : AgentData). Sees m words (caller.Agent b)) (sym is.0) tt
-fresh_sees g m words (caller.Cpu looks) is = tt
-
-fresh_due : (g : GeometryData) (y : Size) (region : ℕ) (x : Caller) → IsFresh g x → is_due y region x ≡ false
-fresh_due g y region (caller.Agent a) is = ap (λ (b : AgentData). is_due y region (caller.Agent b)) is.0
-fresh_due g y region (caller.Cpu looks) is = refl
-
-fresh_counted : (g : GeometryData) (c k : ℕ) (x : Caller) (u : Task) (given : Answer) → IsFresh g x → slice_get (known_answers x) k ≡ Some given → IsCounted g c k u given []
-fresh_counted g c k (caller.Agent a) u given is answered =
-    idle_counted g c k k a.tasks u given []
-    (subst (λ (answers : List Answer). slice_get answers k ≡ Some given) (ap (λ (b : AgentData). known_answers (caller.Agent b)) is.0 ∙ append-nil (idle_answers g a.tasks)) answered)
-fresh_counted g c k (caller.Cpu looks) u given is answered = absurd cc
-
--- each caller of a fresh list is fresh
-fresh_at : (g : GeometryData) (callers : List Caller) (c : ℕ) (x : Caller) → All (IsFresh g) callers → slice_get callers c ≡ Some x → IsFresh g x
-fresh_at g callers c x fresh_all at = subst (IsFresh g) (get_or_from_slice_get callers c x x at) (fresh_all c x (slice_get_within callers c x at))
-
-pub opening_invariant : (g : GeometryData) (first : List Gpi) (callers : List Caller) (words : List ℕ) → All (IsFresh g) callers → AreStarting g first words → HoldsIn g (record { first = first; words = words; callers = callers; history = [] })
-opening_invariant g first callers words fresh_all starting = record {
-  shape = record {
-    geometry = starting.geometry;
-    size = starting.size;
-    granules = starting.granules;
-    made = All-weaker (IsFresh g) (IsMade g) (fresh_made g) callers fresh_all;
-  };
-  tables = opening_tables g first callers words fresh_all starting;
-  opened = λ granule. sym (ap (pairs_of granule) (none_open g callers fresh_all));
-  locks = λ n below.
-      ap (λ (word : ℕ). bit_at word (n % 64)) (starting.free (n / 64) (omega (arith, below))) ∙ bit_at-zero (n % 64)
-      ∙ sym (none_holds n callers (All-weaker (IsFresh g) (λ x. holds n x ≡ false) (fresh_holds g n) callers fresh_all));
-  seen = λ c x at. fresh_sees g (map_after first []) words x (fresh_at g callers c x fresh_all at);
-  generations = λ y region within.
-      omega (arith, starting.generations y region within, count_none (is_due y region) callers (λ d x at. fresh_due g y region x (fresh_at g callers d x fresh_all at)));
-  undisturbed = undisturbed_empty g.setup;
-  alone = λ c n x at has. absurd (let none = fresh_holds g n x (fresh_at g callers c x fresh_all at) in let both : false ≡ true = sym none ∙ has in cc);
-  counted = λ c k x u given at asked answered. fresh_counted g c k x u given (fresh_at g callers c x fresh_all at) answered;
-  history = record {
-    allowed = tt;
-    own = λ c x at. sym (fresh_own g c x (fresh_at g callers c x fresh_all at));
-    known = All-nil (λ e. caller_in e < length callers);
-  };
-  idle = record { duty = starting.duty; lines = starting.lines };
-}
 
 -- ---- many turns
 

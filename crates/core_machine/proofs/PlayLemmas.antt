@@ -28,8 +28,8 @@ use Rattle.core_machine.specs.InnerOpening.{AreStarting}
 use Rattle.core_machine.specs.InnerMachine.{MachineData, InvariantFor, after_act_of, after_turn_of, after_turn, after_turns, entries_in}
 use Rattle.core_machine.specs.InnerPlay.{caller_of, opening_of, NamesCaller, played}
 use Rattle.core_machine.proofs.CallLemmas.{asks_no_looks}
-use Rattle.core_machine.proofs.MachineLemmas.{opening_invariant, turns_hold}
-use Rattle.core_machine.proofs.OpeningLemmas.{built_starts}
+use Rattle.core_machine.proofs.MachineLemmas.{turns_hold}
+use Rattle.core_machine.proofs.OpeningLemmas.{opening_invariant, built_starts}
 use Rattle.core_machine.specs.Scenarios.{IsAccepted, first_map, geometry_of, slot_turns, task_of_ask, turns_in}
 
 -- ---- callers

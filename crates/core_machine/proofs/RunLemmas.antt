@@ -1,17 +1,15 @@
 -- What a run leaves: its trace, and what answers and words are for the trace's history.
-use Rattle.std.proofs.Common.{◌≡◌, ◌≢◌, ℕ, zero, suc, ◌+◌, ◌*◌, ◌/◌, ◌<◌, ◌≤◌, not, ◌⊎◌, ◌∷◌, [], List, Bool, true, false, ◌&&◌, eqb, map, length, Option, Some, None, refl, sym, ap, ◌∙◌, subst, arith, inl, inr}
+use Rattle.std.proofs.Common.{◌≡◌, ◌≢◌, ℕ, zero, suc, ◌+◌, ◌*◌, ◌<◌, ◌≤◌, not, ◌⊎◌, ◌∷◌, [], List, true, false, map, length, Option, Some, None, refl, sym, ap, ◌∙◌, subst, arith, inl, inr}
 use Rattle.std.specs.Prelude.{slice_get, is_some, Result, Ok, Err, IfOk}
 use Rattle.history.specs.declared.outcome.Outcome.{Outcome}
 use Rattle.std.specs.List.{All, count_by}
 use Rattle.std.specs.Option.{option_map}
-use Rattle.std.proofs.Math.Nat.{mul-div_cancel}
-use Rattle.std.proofs.lemmas.Bool.{cases_Bool, eqb-true, ne_eqb}
+use Rattle.std.proofs.lemmas.Bool.{cases_Bool, ne_eqb}
 use Rattle.std.proofs.lemmas.List.{length-map}
 use Rattle.std.proofs.lemmas.List.Sums.{sum_by-cons}
 use Rattle.std.proofs.lemmas.List.Elements.{All-head, All-tail}
 use Rattle.std.proofs.lemmas.Option.{slice_get_cases, slice_get-map, slice_get_past, slice_get_within}
 use Rattle.gpt_descriptors.specs.declared.size.Size.{Size}
-use Rattle.gpt_descriptors.specs.declared.size.Size.TheVariants as size
 use Rattle.gpt_descriptors.specs.Sizes.{granule_bytes, size_bytes}
 use Rattle.gpt_descriptors.specs.Places.{GeometryData, blocks_in_region}
 use Rattle.shared_words.specs.declared.act.Act.{Act}
@@ -23,13 +21,10 @@ use Rattle.history.specs.declared.call.Task.{Task}
 use Rattle.history.specs.declared.call.Answer.{Answer}
 use Rattle.history.specs.declared.entry.Entry.{Entry}
 use Rattle.history.specs.Calls.{task_at, answer_at}
-use Rattle.history.specs.Counts.{region_of, count_of}
-use Rattle.delegate_ops.specs.declared.stage.Stage.{Stage}
-use Rattle.delegate_ops.specs.declared.stage.Stage.TheVariants as stage
-use Rattle.delegate_ops.specs.Deciding.{address_of, HasCause}
-use Rattle.delegate_ops.specs.InnerAgents.{AgentData, fresh, task_of, IsAgent, has_ended, next_of}
-use Rattle.delegate_ops.proofs.DecidingLemmas.{acts_inside}
-use Rattle.delegate_ops.specs.Script.{granule_of_task, Follows}
+use Rattle.history.specs.Counts.{count_of}
+use Rattle.delegate_ops.specs.Deciding.{HasCause}
+use Rattle.delegate_ops.specs.InnerAgents.{AgentData, fresh, IsAgent, has_ended, next_of}
+use Rattle.delegate_ops.specs.Script.{Follows}
 use Rattle.delegate_ops.proofs.ScriptLemmas.{some_mapped}
 use Rattle.core_machine.specs.declared.caller.Caller.{Caller}
 use Rattle.core_machine.specs.declared.caller.Caller.TheVariants as caller
@@ -37,12 +32,9 @@ use Rattle.core_machine.specs.InnerCallers.{caller_next, caller_answers, holds, 
 use Rattle.core_machine.specs.InnerInvariant.{HoldsIn}
 use Rattle.core_machine.specs.InnerMachine.{InvariantFor, entries_in, scene_of}
 use Rattle.core_machine.specs.InnerPlay.{caller_of, opening_of, played, outcome_of, played_trace}
-use Rattle.core_machine.proofs.ListLemmas.{one, get_front}
+use Rattle.core_machine.proofs.ListLemmas.{some_or_none, one, get_front, count_none}
 use Rattle.core_machine.proofs.LockLemmas.{holder_bit}
-use Rattle.core_machine.proofs.OthersLemmas.{Holder, made_at_place, is_holder, holder_has, count_alone, count_none, region_at}
-use Rattle.core_machine.proofs.WordLemmas.{number_by_region}
-use Rattle.core_machine.proofs.RaisedLemmas.{others_raised}
-use Rattle.core_machine.proofs.ActLemmas.{lock_low}
+use Rattle.core_machine.proofs.CallerLemmas.{due_alone, placed_at, made_at_place}
 use Rattle.core_machine.proofs.MachineLemmas.{turns_hold}
 use Rattle.core_machine.proofs.TraceLemmas.{played_walked, trace_entries, trace_words, trace_answered, IsDone, done_stays, turns_taken, trace_known, trace_counts}
 use Rattle.core_machine.proofs.AnswerLemmas.{calls_cause, alone_told, worn_told}
@@ -58,7 +50,7 @@ use Rattle.core_machine.specs.Trace.{TraceEvent, events_of, FollowsScript, HasEn
 use Rattle.core_machine.specs.Scenarios.{first_map, geometry_of, task_of_ask, tasks_of, turns_in, first_words}
 use Rattle.core_machine.specs.Run.{IsRun}
 use Rattle.core_machine.specs.InnerScene.{Scene}
-use Rattle.core_machine.specs.InnerAgentCaller.{is_inside, is_due_at, is_around, coming_at}
+use Rattle.core_machine.specs.InnerAgentCaller.{is_inside, coming_at}
 
 -- ---- tasks
 
@@ -110,42 +102,6 @@ counts_told g s tasks stands have c k t given asked answered =
 
 -- ---- generations
 
-pub some_or_none : (p : Caller → Bool) (callers : List Caller) → (count_by p callers ≡ 0) ⊎ ((c : ℕ) × (x : Caller) × (slice_get callers c ≡ Some x) × (p x ≡ true))
-some_or_none p [] = inl refl
-some_or_none p (x ∷ callers) =
-    let counted : count_by p (x ∷ callers) ≡ one (p x) + count_by p callers = sum_by-cons (λ z. one (p z)) x callers in
-    elim (cases_Bool (p x)) [
-      | inl passes ↦ inr (0, x, refl, passes)
-      | inr fails ↦ elim (some_or_none p callers) [
-        | inl none ↦ inl (let here : one (p x) ≡ 0 = ap one fails in omega (arith, counted, here, none))
-        | inr some ↦ inr (suc some.0, some.1, some.2, some.3)
-      ]
-    ]
-
--- what is due is due of a holder whose task is in the region
-due_task : (g : GeometryData) (s : Stage) (o : Option Task) (y : Size) (region : ℕ) → (is_due_at s y && is_around g y region o) ≡ true
-    → (t : Task) × (o ≡ Some t) × (is_inside s ≡ true) × (region_of (granule_bytes g.setup) y (granule_of_task g t) ≡ region)
-due_task g (stage.Raising c z k) (Some t) y region due =
-    elim (cases_Bool (eqb (region_of (granule_bytes g.setup) y (granule_of_task g t)) region)) [
-      | inl same ↦ (t, refl, refl, eqb-true _ _ same)
-      | inr other ↦ absurd (elim (cases_Bool (is_due_at (stage.Raising c z k) y)) [ inl is ↦ (let both : false ≡ true = rw (is, other) at due in cc) | inr not_it ↦ (let both : false ≡ true = rw not_it at due in cc) ])
-    ]
-due_task g (stage.Raising c z k) None y region due =
-    absurd (elim (cases_Bool (is_due_at (stage.Raising c z k) y)) [ inl is ↦ (let both : false ≡ true = rw is at due in cc) | inr not_it ↦ (let both : false ≡ true = rw not_it at due in cc) ])
-due_task g s o y region due = absurd cc
-
-due_holder : (g : GeometryData) (callers : List Caller) (c : ℕ) (x : Caller) (y : Size) (region : ℕ) → slice_get callers c ≡ Some x → IsMade g x → is_due y region x ≡ true
-    → (a : AgentData) × (t : Task) × Holder g callers c a t × (region_of (granule_bytes g.setup) y (granule_of_task g t) ≡ region) × (is_due y region (caller.Agent a) ≡ true)
-due_holder g callers c (caller.Cpu looks) y region at made due = absurd cc
-due_holder g callers c (caller.Agent a) y region at made due =
-    let task = due_task a.geometry a.stage (task_of a) y region due in
-    (a, task.0, is_holder g callers c a task.0 at made task.1 task.2, ap (λ (k : GeometryData). region_of (granule_bytes k.setup) y (granule_of_task k task.0)) (sym made.0) ∙ task.3, due)
-
-size_some : (y : Size) → 0 < size_bytes y
-size_some size.Two = omega arith
-size_some size.ThirtyTwo = omega arith
-size_some size.FiveTwelve = omega arith
-
 pub generations_told : (g : GeometryData) (s : Scene) → HoldsIn g s → (y : Size) (region : ℕ) → region < blocks_in_region y * g.setup.gigabytes
     → (generation_word g s.words y region ≡ count_of g.setup.first (granule_bytes g.setup) y region s.history)
     ⊎ ((generation_word g s.words y region + 1 ≡ count_of g.setup.first (granule_bytes g.setup) y region s.history) × (lock_bit s.words (lock_number g.setup (region * size_bytes y)) ≡ 1))
@@ -153,24 +109,11 @@ generations_told g s stands y region within =
     elim (some_or_none (is_due y region) s.callers) [
       | inl none ↦ inl (omega (arith, stands.generations y region within, none))
       | inr some ↦
-          (let made = made_at_place g s some.0 some.1 stands some.2 in
-          let owner = due_holder g s.callers some.0 some.1 y region some.2 made some.3 in
-          let holder = owner.2 in
-          let pa = address_of owner.1 in
-          let low : lock_number g.setup pa < 128 = lock_low g.setup pa stands.shape.geometry.setup (acts_inside g owner.1 holder.acts) in
-          let region_is : pa / size_bytes y ≡ region = sym (region_at g y owner.1 holder.acts) ∙ owner.3 in
-          let due : count_by (is_due y region) s.callers ≡ one (is_due y region (caller.Agent owner.0)) =
-          count_alone (is_due y region) s.callers some.0 (caller.Agent owner.0) holder.at
-          (λ d z apart there.
-          subst (λ (r : ℕ). is_due y r z ≡ false) owner.3
-          (others_raised g s.words s.callers some.0 d owner.0 owner.1 y z stands.locks low holder apart there (made_at_place g s d z stands there))) in
-          let one_due : one (is_due y region (caller.Agent owner.0)) ≡ 1 = ap one owner.4 in
-          let number : lock_number g.setup (region * size_bytes y) ≡ lock_number g.setup pa =
-          number_by_region g.setup y (region * size_bytes y) pa (mul-div_cancel region (size_some y) ∙ sym region_is) in
-          inr (
-            omega (arith, stands.generations y region within, due, one_due),
-            ap (lock_bit s.words) number ∙ holder_bit s.words s.callers some.0 (lock_number g.setup pa) (caller.Agent owner.0) holder.at stands.locks low (holder_has g s.callers some.0 owner.0 owner.1 holder),
-          ))
+          (let n = lock_number g.setup (region * size_bytes y) in
+          let in_block = placed_at g s some.0 some.1 stands some.2 in
+          let has : holds n some.1 ≡ true = elim (in_block.due y region) [ inl none ↦ absurd (let both : true ≡ false = sym some.3 ∙ none in cc) | inr has ↦ has ] in
+          let due : count_by (is_due y region) s.callers ≡ 1 = due_alone (record { stands = stands; at = some.2; has = has }) y region refl ∙ ap one some.3 in
+          inr (omega (arith, stands.generations y region within, due), holder_bit s.words s.callers some.0 n some.1 some.2 stands.locks (in_block.low n has) has))
     ]
 
 -- ---- locks at the end

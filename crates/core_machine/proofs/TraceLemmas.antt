@@ -30,7 +30,6 @@ use Rattle.delegate_ops.proofs.ScriptLemmas.{fresh_walked, step_walks}
 use Rattle.core_machine.specs.declared.caller.Caller.{Caller}
 use Rattle.core_machine.specs.declared.caller.Caller.TheVariants as caller
 use Rattle.core_machine.proofs.ListLemmas.{one, get_set, get_set_other}
-use Rattle.core_machine.proofs.OthersLemmas.{made_at_place}
 use Rattle.core_machine.proofs.LawLemmas.{one_act, actor_of, is_plain, IsOn, act_word}
 use Rattle.core_machine.proofs.MachineLemmas.{turn_holds, turns_length}
 use Rattle.core_machine.proofs.LockLemmas.{holder_bit, take_free, take_held, release_held}
@@ -46,6 +45,7 @@ use Rattle.core_machine.specs.InnerPlay.{caller_of, opening_of, played, played_t
 use Rattle.core_machine.specs.Scenarios.{first_map, geometry_of, task_of_ask, turns_in}
 use Rattle.core_machine.proofs.WordLemmas.{is_lock, locks_left, writes_one}
 use Rattle.core_machine.specs.InnerScene.{Scene}
+use Rattle.core_machine.proofs.CallerLemmas.{made_at_place}
 
 -- ---- each caller's events
 

@@ -5,13 +5,11 @@ use Rattle.gpt_descriptors.specs.declared.size.Size.{Size}
 use Rattle.gpt_descriptors.specs.declared.size.Size.TheVariants as size
 use Rattle.gpt_descriptors.specs.declared.size.Generations.{Generations}
 use Rattle.gpt_descriptors.specs.Sizes.{granule_bytes}
-use Rattle.gpt_descriptors.specs.Entries.{word_gpi}
 use Rattle.gpt_descriptors.specs.Places.{GeometryData, gen_place_of}
 use Rattle.bit_locks.specs.Locks.{lock_number}
-use Rattle.shatter.specs.Splitting.{SplittingData}
 use Rattle.table_meaning.specs.Equation.{Holder}
 use Rattle.table_meaning.specs.Facts as facts
-use Rattle.table_meaning.specs.Facts.{Facts, Keeps}
+use Rattle.table_meaning.specs.Facts.{Facts}
 use Rattle.history.specs.declared.call.Task.{Task}
 use Rattle.history.specs.declared.call.Answer.{Answer}
 use Rattle.history.specs.declared.call.Answer.TheVariants as answer
@@ -19,10 +17,9 @@ use Rattle.history.specs.declared.entry.Entry.{Entry}
 use Rattle.history.specs.Legality.{needed}
 use Rattle.history.specs.Calls.{answered_entries}
 use Rattle.history.specs.Counts.{region_of}
-use Rattle.delegate_ops.specs.declared.stage.Kept.{Kept}
 use Rattle.delegate_ops.specs.declared.stage.Stage.{Stage}
 use Rattle.delegate_ops.specs.declared.stage.Stage.TheVariants as stage
-use Rattle.delegate_ops.specs.Deciding.{address_of, granule_place, generation_in}
+use Rattle.delegate_ops.specs.Deciding.{address_of, generation_in}
 use Rattle.delegate_ops.specs.Changing.{from_of, to_of}
 use Rattle.delegate_ops.specs.Script.{CallEvent, granule_of_task}
 use Rattle.delegate_ops.specs.InnerAgents.{AgentData, IsAgent, task_of, fresh}
@@ -135,44 +132,37 @@ agent_holder a = record {
 
 -- ---- what it keeps while it holds its lock is what is in the shared words and in the map
 
+-- the GPI that the map gives its granule is the one that the call needs, that it changes, or that
+-- it has made
+abbrev pub GivesAt : Task → Stage → Gpi → Type 0
+GivesAt t (stage.Reading z k) v = needed t ≡ Some v
+GivesAt t (stage.Splitting z d k) v = needed t ≡ Some v
+GivesAt t (stage.Changing c k) v = from_of t c ≡ v
+GivesAt t (stage.Raising c z k) v = to_of t c ≡ v
+GivesAt t s v = Unit {0}
+
 -- the generation of this size around it is the kept one
 abbrev pub SeesGeneration : GeometryData → List ℕ → Task → Generations → Size → Type 0
 SeesGeneration g words t k y =
     slice_index words (gen_place_of g y (address_of t)) ≡ generation_in y k
 
--- what a call at this stage knows of the map
-abbrev pub KnowsAt : GeometryData → (ℕ → Gpi) → Task → Stage → Type 0
-KnowsAt g m t s = Facts g.setup m (granule_of_task g t) (known_at s)
+-- all of them are; while they are loaded, those of the sizes before
+abbrev pub SeesGenerations : GeometryData → List ℕ → Task → Stage → Type 0
+SeesGenerations g words t (stage.Reading z k) =
+    (y : Size) → comes_before y z ≡ true → SeesGeneration g words t k.generations y
+SeesGenerations g words t (stage.Splitting z d k) = (y : Size) → SeesGeneration g words t k y
+SeesGenerations g words t (stage.Changing c k) =
+    (y : Size) → SeesGeneration g words t k.generations y
+SeesGenerations g words t (stage.Raising c z k) =
+    (y : Size) → SeesGeneration g words t k.generations y
+SeesGenerations g words t s = Unit {0}
 
--- while the generations are loaded: the word gives the granule the GPI that the call needs, and the
--- generations of the sizes before are the kept ones
-pub record SeesSome (g : GeometryData) (m : ℕ → Gpi) (words : List ℕ) (t : Task) (z : Size)
-    (k : Kept) : Type 0 where
-  pub known : KnowsAt g m t (stage.Reading z k)
-  pub gives : word_gpi k.word (granule_place g (address_of t)) ≡ needed t
-  pub generations : (y : Size) → comes_before y z ≡ true → SeesGeneration g words t k.generations y
-
--- while its block is split: the block has the GPI that the call needs
-pub record SeesSplit (g : GeometryData) (m : ℕ → Gpi) (words : List ℕ) (t : Task) (z : Size)
-    (d : SplittingData) (k : Generations) : Type 0 where
-  pub known : KnowsAt g m t (stage.Splitting z d k)
-  pub needs : needed t ≡ Some d.gpi
-  pub generations : (y : Size) → SeesGeneration g words t k y
-
--- from then on: the word gives the granule this GPI
-pub record SeesAll (g : GeometryData) (m : ℕ → Gpi) (words : List ℕ) (t : Task) (found : Gpi)
-    (k : Kept) : Type 0 where
-  pub known : Facts g.setup m (granule_of_task g t) (Keeps k.word)
-  pub gives : word_gpi k.word (granule_place g (address_of t)) ≡ Some found
-  pub generations : (y : Size) → SeesGeneration g words t k.generations y
-
-abbrev pub SeesAt : GeometryData → (ℕ → Gpi) → List ℕ → Stage → Option Task → Type 0
-SeesAt g m words (stage.Reading z k) (Some t) = SeesSome g m words t z k
-SeesAt g m words (stage.Splitting z d k) (Some t) = SeesSplit g m words t z d k
-SeesAt g m words (stage.Changing c k) (Some t) = SeesAll g m words t (from_of t c) k
-SeesAt g m words (stage.Raising c z k) (Some t) = SeesAll g m words t (to_of t c) k
-SeesAt g m words (stage.Merging f k) (Some t) = KnowsAt g m t (stage.Merging f k)
-SeesAt g m words s o = Unit {0}
+pub record SeesAt (g : GeometryData) (m : ℕ → Gpi) (words : List ℕ) (t : Task)
+    (s : Stage) : Type 0 where
+  pub known : Facts g.setup m (granule_of_task g t) (known_at s)
+  pub gives : GivesAt t s (m (granule_of_task g t))
+  pub generations : SeesGenerations g words t s
 
 abbrev pub agent_sees : (ℕ → Gpi) → List ℕ → AgentData → Type 0
-agent_sees m words a = SeesAt a.geometry m words a.stage (task_of a)
+agent_sees m words a =
+    (t : Task) → task_of a ≡ Some t → SeesAt a.geometry m words t a.stage
