@@ -11,7 +11,7 @@ use Rattle.std.proofs.lemmas.List.Elements.{All-head, All-tail}
 use Rattle.std.proofs.lemmas.Option.{slice_get_cases, slice_get-map, slice_get_past, slice_get_within}
 use Rattle.gpt_descriptors.specs.declared.size.Size.{Size}
 use Rattle.gpt_descriptors.specs.Sizes.{granule_bytes, size_bytes}
-use Rattle.gpt_descriptors.specs.Places.{GeometryData, blocks_in_region}
+use Rattle.gpt_descriptors.specs.Places.{GeometryData, blocks_in_region, word_count}
 use Rattle.shared_words.specs.declared.act.Act.{Act}
 use Rattle.bit_locks.specs.Locks.{lock_number, lock_bit}
 use Rattle.scenario_text.specs.declared.scenario.Scenario.{Scenario}
@@ -19,7 +19,6 @@ use Rattle.scenario_text.specs.declared.scenario.Script.{Script}
 use Rattle.scenario_text.specs.declared.scenario.Script.TheVariants as script
 use Rattle.history.specs.declared.call.Task.{Task}
 use Rattle.history.specs.declared.call.Answer.{Answer}
-use Rattle.history.specs.declared.entry.Entry.{Entry}
 use Rattle.history.specs.Calls.{task_at, answer_at}
 use Rattle.history.specs.Counts.{count_of}
 use Rattle.delegate_ops.specs.Deciding.{HasCause}
@@ -30,21 +29,20 @@ use Rattle.core_machine.specs.declared.caller.Caller.{Caller}
 use Rattle.core_machine.specs.declared.caller.Caller.TheVariants as caller
 use Rattle.core_machine.specs.InnerCallers.{caller_next, caller_answers, holds, is_due, caller_tasks, IsMade, agent_tasks}
 use Rattle.core_machine.specs.InnerInvariant.{HoldsIn}
-use Rattle.core_machine.specs.InnerMachine.{InvariantFor, entries_in, scene_of}
+use Rattle.core_machine.specs.InnerMachine.{InvariantFor, scene_of}
 use Rattle.core_machine.specs.InnerPlay.{caller_of, opening_of, played, outcome_of, played_trace}
 use Rattle.core_machine.proofs.ListLemmas.{some_or_none, one, get_front, count_none}
 use Rattle.core_machine.proofs.LockLemmas.{holder_bit}
 use Rattle.core_machine.proofs.CallerLemmas.{due_alone, placed_at, made_at_place}
-use Rattle.core_machine.proofs.MachineLemmas.{turns_hold}
-use Rattle.core_machine.proofs.TraceLemmas.{played_walked, trace_entries, trace_words, trace_answered, IsDone, done_stays, turns_taken, trace_known, trace_counts}
+use Rattle.core_machine.proofs.MachineLemmas.{turns_hold, turns_leave, turns_shape}
+use Rattle.core_machine.proofs.TraceLemmas.{played_walked, trace_answers, IsDone, done_stays, turns_taken, trace_counts}
 use Rattle.core_machine.proofs.AnswerLemmas.{calls_cause, alone_told, worn_told}
 use Rattle.core_machine.proofs.FreeLemmas.{tables_told, words_told, whole_told}
 use Rattle.delegate_ops.proofs.FollowLemmas.{walked_follows, walked_ended}
 use Rattle.delegate_ops.proofs.NextLemmas.{next_there}
 use Rattle.scenario_text.specs.declared.scenario.Look.{Look}
 use Rattle.core_machine.proofs.LegalLemmas.{HaveTasks, AreMade, made_legal, made_calls}
-use Rattle.core_machine.proofs.PlayLemmas.{turns_geometry}
-use Rattle.core_machine.proofs.FitLemmas.{took_tasks, turns_leave}
+use Rattle.core_machine.proofs.FitLemmas.{took_tasks}
 use Rattle.core_machine.specs.Facts.{IsCounted, generation_word, FitsHistory}
 use Rattle.core_machine.specs.Trace.{TraceEvent, events_of, FollowsScript, HasEnded, IsTrace, answers_by, history_of}
 use Rattle.core_machine.specs.Scenarios.{first_map, geometry_of, task_of_ask, tasks_of, turns_in, first_words}
@@ -254,10 +252,10 @@ ends_of s c None made at done =
 pub is_trace : (s : Scenario) → InvariantFor (first_map s) (opening_of s) [] → AreMade (geometry_of s) (played s).callers
     → IsTrace (geometry_of s) s.scripts (first_words s) (turns_in s) (played_trace s) (map caller_answers (played s).callers) (played s).words
 is_trace s opening made = record {
-  callers = subst (λ (n : ℕ). All (λ (e : TraceEvent). e.caller < n) (played_trace s)) (length-map s.scripts (caller_of (geometry_of s))) (trace_known (opening_of s) (turns_in s));
+  callers = subst (λ (n : ℕ). All (λ (e : TraceEvent). e.caller < n) (played_trace s)) (length-map s.scripts (caller_of (geometry_of s))) (turns_shape (opening_of s) (turns_in s)).2;
   turned = turns_taken _ (opening_of s) (turns_in s) (λ c o at done. ends_of s c o made at done);
-  answered = trace_answered (first_map s) (opening_of s) [] (turns_in s) opening;
-  left = trace_words (opening_of s) (turns_in s);
+  answered = (trace_answers (opening_of s) (turns_in s) (first_map s, [], opening)).1;
+  left = (trace_answers (opening_of s) (turns_in s) (first_map s, [], opening)).0;
   follows = λ c own answers given answered.
       let count : length s.scripts ≡ length (played s).callers = sym (length-map s.scripts tasks_of) ∙ many_tasks s in
       elim (slice_get_cases (played s).callers c).1 [
@@ -286,18 +284,16 @@ pub is_run : (s : Scenario) → InvariantFor (first_map s) (opening_of s) [] →
 is_run s opening =
     let stands_so = turns_hold (first_map s) (opening_of s) [] (turns_in s) opening in
     let end : Scene = scene_of (first_map s) (played s) (history_of (played_trace s)) in
-    let stands : HoldsIn (geometry_of s) end =
-    subst (λ (h : List Entry). HoldsIn (geometry_of s) (scene_of (first_map s) (played s) h)) (sym (trace_entries (opening_of s) (turns_in s)))
-    (subst (λ (g : GeometryData). HoldsIn g (scene_of (first_map s) (played s) (entries_in (opening_of s) (turns_in s)))) (turns_geometry (opening_of s) (turns_in s)) stands_so) in
+    let stands : HoldsIn (geometry_of s) end = subst (λ (g : GeometryData). HoldsIn g end) (turns_shape (opening_of s) (turns_in s)).0 stands_so in
     let made : AreMade (geometry_of s) (played s).callers = λ c a at.
     (let is = made_at_place (geometry_of s) end c (caller.Agent a) stands at in
     (is.0, is.1, events_of c (played_trace s), played_walked s c a opening at)) in
     record {
-      geometry = turns_geometry (opening_of s) (turns_in s);
+      geometry = (turns_shape (opening_of s) (turns_in s)).0;
       turns = is_trace s opening made;
       fits = fits_history (geometry_of s) end (map tasks_of s.scripts) stands (have_tasks s) made (many_tasks s);
       locks = λ n low.
-          let counts = trace_counts n (first_map s) (opening_of s) [] (turns_in s) low opening in
+          let counts = trace_counts n (opening_of s) (turns_in s) low (first_map s, [], opening) in
           let free = opening.locks n low in
           let none = opening_holds n (geometry_of s) s.scripts in
           omega (arith, counts, free, none);
@@ -306,3 +302,7 @@ is_run s opening =
 pub run_left : {E : Type 0} (s : Scenario) (r : Result Outcome E) → InvariantFor (first_map s) (opening_of s) [] → IfOk r (λ o. o ≡ outcome_of (played s)) → IfOk r (λ o. IsRun s o (played_trace s))
 run_left s (Ok o) opening left = subst (λ (x : Outcome). IsRun s x (played_trace s)) (sym left) (is_run s opening)
 run_left s (Err e) opening left = tt
+
+pub run_size : {E : Type 0} (s : Scenario) (r : Result Outcome E) → IfOk r (λ o. IsRun s o (played_trace s)) → IfOk r (λ o. length o.words ≡ word_count o.geometry)
+run_size s (Ok o) run = run.fits.size ∙ ap word_count (sym run.geometry)
+run_size s (Err e) run = tt
