@@ -1,36 +1,23 @@
 -- The laws of callers that running words need.
-use Rattle.std.proofs.Common.{◌≡◌, ℕ, ◌<◌, true, false, Option, Some, None, sym, refl, ap, ◌∙◌, subst, inl, inr}
-use Rattle.std.specs.Prelude.{slice_get, option_and_then}
-use Rattle.gpt_descriptors.specs.Places.{GeometryData, IsGeometry, word_count}
-use Rattle.shared_words.specs.declared.act.Act.{Act}
-use Rattle.shared_words.specs.Acts.{place_in}
+use Rattle.std.proofs.Common.{◌≡◌, ℕ, true, false, Some, None, sym, refl, ap, ◌∙◌, subst, inl, inr}
+use Rattle.std.specs.Prelude.{slice_get}
+use Rattle.gpt_descriptors.specs.Places.{GeometryData}
 use Rattle.bit_locks.specs.Locks.{lock_number}
 use Rattle.history.specs.declared.call.Task.{Task}
 use Rattle.delegate_ops.specs.Deciding.{address_of, idle_answer}
-use Rattle.delegate_ops.specs.InnerAgents.{AgentData, HasActs, IsStage, task_of, act_at}
+use Rattle.delegate_ops.specs.InnerAgents.{AgentData, HasActs, task_of}
 use Rattle.delegate_ops.proofs.AgentLemmas.{took_is_agent}
 use Rattle.delegate_ops.proofs.NextLemmas.{next_there}
 use Rattle.core_machine.specs.declared.caller.Caller.TheVariants as caller
-use Rattle.core_machine.specs.InnerCallerLaws.{ActsHavePlaces, ActsKeepTheirCaller, AgentsGoOn, WaitsHaveCauses}
+use Rattle.core_machine.specs.InnerCallerLaws.{ActsKeepTheirCaller, AgentsGoOn, WaitsHaveCauses}
 use Rattle.core_machine.specs.declared.caller.Caller.{Caller}
 use Rattle.core_machine.proofs.AddressLemmas.{task_low}
 use Rattle.core_machine.proofs.CallerLemmas.{agent_inside, made_at_place}
-use Rattle.core_machine.proofs.LawLemmas.{took_leaves, act_low}
+use Rattle.core_machine.proofs.LawLemmas.{took_leaves}
 use Rattle.core_machine.proofs.FitLemmas.{took_tasks}
 use Rattle.core_machine.specs.InnerAgentCaller.{is_inside}
 use Rattle.core_machine.specs.InnerCallers.{holds}
 use Rattle.core_machine.proofs.ListLemmas.{some_or_none}
-
--- ---- places
-
-place_of_task : (a : AgentData) (o : Option Task) (next : Act) → IsGeometry a.geometry → HasActs a.geometry o → IsStage a.geometry a.stage o → option_and_then (act_at a.geometry a.stage) o ≡ Some next → place_in next < word_count a.geometry
-place_of_task a None next geometry acts fits e = absurd cc
-place_of_task a (Some t) next geometry acts fits e = act_low a.geometry t a.stage next geometry acts fits e
-
-pub acts_have_places : ActsHavePlaces
-acts_have_places g (caller.Agent a) next made e =
-    subst (λ (k : GeometryData). place_in next < word_count k) made.0 (place_of_task a (task_of a) next made.1.geometry made.1.acts made.1.stage e)
-acts_have_places g (caller.Cpu looks) next made e = absurd cc
 
 -- ---- what an act keeps
 

@@ -11,7 +11,6 @@ use Rattle.std.proofs.lemmas.List.{map-append}
 use Rattle.std.proofs.lemmas.List.Elements.{filter-append, All-nil, All-cons, All-append}
 use Rattle.std.proofs.lemmas.List.Sums.{sum_by-append}
 use Rattle.gpt_descriptors.specs.Places.{GeometryData, place_of, WordName, IsWordName}
-use Rattle.history.specs.declared.call.Task.{Task}
 use Rattle.shared_words.specs.declared.act.Act.{Act}
 use Rattle.shared_words.specs.declared.act.Act.TheVariants as act
 use Rattle.shared_words.specs.Acts.{answer_of, after_act, place_in}
@@ -19,17 +18,15 @@ use Rattle.bit_locks.specs.Locks.{lock_bit, bit_with, take_act, release_act}
 use Rattle.scenario_text.specs.declared.scenario.Scenario.{Scenario}
 use Rattle.scenario_text.specs.declared.scenario.Script.{Script}
 use Rattle.scenario_text.specs.declared.scenario.Script.TheVariants as script
-use Rattle.delegate_ops.specs.declared.stage.Stage.{Stage}
 use Rattle.delegate_ops.specs.InnerAgents.{AgentData, IsStage, fresh, took_of}
 use Rattle.delegate_ops.proofs.ScriptLemmas.{fresh_walked, step_walks}
 use Rattle.core_machine.specs.declared.caller.Caller.{Caller}
 use Rattle.core_machine.specs.declared.caller.Caller.TheVariants as caller
 use Rattle.core_machine.proofs.ListLemmas.{one, count_cons, get_set, get_set_other}
-use Rattle.core_machine.proofs.LawLemmas.{one_act, actor_of, is_plain, IsOn, act_word}
+use Rattle.core_machine.proofs.LawLemmas.{agent_acting, one_act, is_plain, act_word}
 use Rattle.core_machine.proofs.MachineLemmas.{Along, Always, act_has, along}
 use Rattle.core_machine.proofs.LockLemmas.{holder_bit, take_free, take_held, release_held}
-use Rattle.core_machine.proofs.ActLemmas.{Acting, lock_of_task, low_of}
-use Rattle.delegate_ops.proofs.AgentLemmas.{at_stage}
+use Rattle.core_machine.proofs.ActLemmas.{lock_of_task, low_of}
 use Rattle.core_machine.specs.Trace.{AreAnswered, TakesTurns, TraceEvent, events_of, words_after, releases, releases_by, takes, takes_by}
 use Rattle.delegate_ops.specs.Script.{CallEvent}
 use Rattle.delegate_ops.specs.InnerScript.{HasWalked}
@@ -40,7 +37,8 @@ use Rattle.core_machine.specs.InnerPlay.{caller_of, opening_of, played, played_t
 use Rattle.core_machine.specs.Scenarios.{first_map, geometry_of, task_of_ask, turns_in}
 use Rattle.core_machine.proofs.WordLemmas.{is_lock, locks_left, writes_one}
 use Rattle.core_machine.specs.InnerScene.{Scene}
-use Rattle.core_machine.proofs.CallerLemmas.{made_at_place}
+use Rattle.core_machine.specs.InnerAgentCaller.{is_inside}
+use Rattle.core_machine.proofs.CallerLemmas.{agent_has, made_at_place}
 
 -- ---- each caller's events
 
@@ -289,26 +287,24 @@ plain_counts g words n (act.Load place) m named unlike at plain low = plain_left
 plain_counts g words n (act.Store place value) m named unlike at plain low = plain_left g words n place value m named unlike at low
 plain_counts g words n next m named unlike at plain low = absurd cc
 
-act_counts : {s : Scene} {c : ℕ} {a : AgentData} {t : Task} {st : Stage} (next : Act) (m : ℕ) (acting : Acting s c a t st) → IsOn a.geometry t st next → m < 128 → CountsLock s.words next m
-act_counts {s = s} {c = c} {a = a} {t = t} {st = st} next m acting on low =
-    let n = lock_of_task a t in
+caller_counts : (g : GeometryData) (s : Scene) (c : ℕ) (x : Caller) (t : Act) (m : ℕ) → HoldsIn g s → slice_get s.callers c ≡ Some x → caller_next x ≡ Some t → m < 128 → CountsLock s.words t m
+caller_counts g s c (caller.Cpu looks) t m stands at next low = absurd cc
+caller_counts g s c (caller.Agent a) t m stands at next low =
+    let way = agent_acting g s c a t stands at next in
+    let acting = way.2 in
+    let n = lock_of_task a way.1 in
     let within : n / 64 < length s.words = omega (arith, low_of acting, acting.stands.shape.size) in
+    let on = act_word a.geometry way.1 a.stage t acting.stands.shape.geometry acting.acts (subst (IsStage a.geometry a.stage) acting.under_way acting.is.stage) way.3 in
     elim on.how [
       | inl takes ↦ subst (λ (x : Act). CountsLock s.words x m) (sym takes.1) (take_counts s.words n m within)
       | inr other ↦ elim other [
         | inl releases ↦
-            (let has : holds n (caller.Agent (at_stage a st)) ≡ true = rw (releases.1, acting.under_way) (eq-eqb n n refl) in
+            (let has : holds n (caller.Agent a) ≡ true = agent_has a way.1 acting.under_way (ap is_inside releases.1) in
             subst (λ (x : Act). CountsLock s.words x m) (sym releases.2)
-            (release_counts s.words n m within (holder_bit s.words s.callers c n (caller.Agent (at_stage a st)) acting.at acting.stands.locks (low_of acting) has)))
-        | inr plain ↦ plain_counts a.geometry s.words on.name next m on.named plain.0 on.place plain.1 low
+            (release_counts s.words n m within (holder_bit s.words s.callers c n (caller.Agent a) at stands.locks (low_of acting) has)))
+        | inr plain ↦ plain_counts a.geometry s.words on.name t m on.named plain.0 on.place plain.1 low
       ]
     ]
-
-caller_counts : (g : GeometryData) (s : Scene) (c : ℕ) (x : Caller) (t : Act) (m : ℕ) → HoldsIn g s → slice_get s.callers c ≡ Some x → caller_next x ≡ Some t → m < 128 → CountsLock s.words t m
-caller_counts g s c x t m stands at next low =
-    let actor = actor_of g s c x t stands at next in
-    let fits : IsStage actor.agent.geometry actor.agent.stage (Some actor.task) = subst (IsStage actor.agent.geometry actor.agent.stage) actor.acting.under_way actor.acting.is.stage in
-    act_counts t m actor.acting (act_word actor.agent.geometry actor.task actor.agent.stage t actor.acting.stands.shape.geometry actor.acting.acts fits actor.act) low
 
 -- the locks taken and released by a trace make the lock bits
 abbrev CountsTrace : ℕ → List ℕ → List ℕ → List TraceEvent → Type 0
