@@ -13,24 +13,24 @@ use Rattle.delegate_ops.specs.InnerAgents.{next_of, took_of, IsReadable}
 use Rattle.core_machine.specs.declared.caller.Caller.{Caller}
 use Rattle.core_machine.specs.declared.caller.Caller.TheVariants as caller
 use Rattle.core_machine.specs.InnerAgentCaller.{IsAgentOf, agent_made, agent_fresh, agent_left, agent_known, agent_makes, agent_own, agent_holds, agent_opens, agent_owes, agent_holder, agent_sees}
-use Rattle.core_machine.specs.InnerCpuCaller.{cpu_next, cpu_took, cpu_known, cpu_makes, cpu_own, cpu_holds, cpu_opens, cpu_owes, cpu_holder, cpu_sees}
+use Rattle.core_machine.specs.InnerCpuCaller.{IsCpuOf, cpu_made, cpu_fresh, cpu_may_take, cpu_answers, cpu_next, cpu_took, cpu_known, cpu_makes, cpu_own, cpu_holds, cpu_opens, cpu_owes, cpu_holder, cpu_sees}
 
 -- ---- how a caller was made
 
 -- with this geometry
 abbrev pub IsCallerOf : GeometryData → Caller → Type 0
 IsCallerOf g (caller.Agent a) = IsAgentOf g a
-IsCallerOf g (caller.Cpu looks) = Unit {0}
+IsCallerOf g (caller.Cpu looks) = IsCpuOf g looks
 
 -- and it has come to where it is by some events of its script
 abbrev pub IsMade : GeometryData → Caller → Type 0
 IsMade g (caller.Agent a) = agent_made g a
-IsMade g (caller.Cpu looks) = Unit {0}
+IsMade g (caller.Cpu looks) = cpu_made g looks
 
 -- it has made no act
 abbrev pub IsFresh : GeometryData → Caller → Type 0
 IsFresh g (caller.Agent a) = agent_fresh g a
-IsFresh g (caller.Cpu looks) = Unit {0}
+IsFresh g (caller.Cpu looks) = cpu_fresh g looks
 
 -- ---- acts
 
@@ -45,7 +45,7 @@ caller_took (caller.Cpu looks) old = caller.Cpu (cpu_took looks old)
 -- the caller can take this answer of its next act
 abbrev pub MayTake : Caller → ℕ → Type 0
 MayTake (caller.Agent a) old = IsReadable a.stage old
-MayTake (caller.Cpu looks) old = Unit {0}
+MayTake (caller.Cpu looks) old = cpu_may_take looks old
 
 abbrev pub caller_waits : Caller → Bool
 caller_waits (caller.Agent a) = a.waited
@@ -64,7 +64,7 @@ caller_tasks (caller.Cpu looks) = []
 
 abbrev pub caller_answers : Caller → List Answer
 caller_answers (caller.Agent a) = a.answers
-caller_answers (caller.Cpu looks) = []
+caller_answers (caller.Cpu looks) = cpu_answers looks
 
 abbrev pub caller_left : Caller → ℕ
 caller_left (caller.Agent a) = agent_left a
