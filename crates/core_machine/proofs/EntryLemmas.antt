@@ -139,47 +139,49 @@ call_allowed g c k t a own call = call_allowed_by g c k t a own (idle_answer g t
 
 -- ---- the call under way
 
--- what it has made are the first entries of an answer that it can have
-abbrev pub IsPrefixFit : GeometryData → ℕ → ℕ → Option Task → List Entry → Type 0
-IsPrefixFit g c k None made = made ≡ []
-IsPrefixFit g c k (Some t) made = (a : Answer) × (n : ℕ) × (made ≡ take n (call_entries (granule_bytes g.setup) c k t a)) × FitsAnswer t a
+-- what it has made are the first entries of an answer that it can have; where that is a worn generation, it is to be
+-- answered so
+abbrev pub IsPrefixFit : GeometryData → ℕ → ℕ → Stage → Option Task → List Entry → Type 0
+IsPrefixFit g c k s None made = made ≡ []
+IsPrefixFit g c k s (Some t) made =
+    (a : Answer) × (n : ℕ) × (made ≡ take n (call_entries (granule_bytes g.setup) c k t a)) × FitsAnswer t a × ((z : Size) (v : ℕ) → a ≡ answer.Worn z v → s ≡ stage.Releasing a)
 
 no_generations : Generations
 no_generations = record { two = 0; thirty_two = 0; five_twelve = 0 }
 
-changing_fits : (g : GeometryData) (c k : ℕ) (t : Task) (ch : Change) → IsPrefixFit g c k (Some t) (entries_before g c k t ch)
-changing_fits g c k (task.Undelegate pa source) change.Last = (answer.Done no_generations, 2, refl, tt)
-changing_fits g c k t ch = (answer.Inval, 0, refl, tt)
+changing_fits : (g : GeometryData) (c k : ℕ) (s : Stage) (t : Task) (ch : Change) → IsPrefixFit g c k s (Some t) (entries_before g c k t ch)
+changing_fits g c k s (task.Undelegate pa source) change.Last = (answer.Done no_generations, 2, refl, tt, λ z v is. absurd cc)
+changing_fits g c k s t ch = (answer.Inval, 0, refl, tt, λ z v is. absurd cc)
 
-raising_fits : (g : GeometryData) (c k : ℕ) (t : Task) (ch : Change) → IsChangeOf t ch → IsPrefixFit g c k (Some t) (entries_before g c k t ch ++ change_entry g c k t ch ∷ [])
-raising_fits g c k (task.Delegate pa source) change.First changes = absurd changes
-raising_fits g c k (task.Delegate pa source) change.Last changes = (answer.Done no_generations, 1, refl, tt)
-raising_fits g c k (task.Undelegate pa source) change.First changes = (answer.Done no_generations, 1, refl, tt)
-raising_fits g c k (task.Undelegate pa source) change.Last changes = (answer.Done no_generations, 3, refl, tt)
-raising_fits g c k task.Unknown ch changes = absurd changes
-raising_fits g c k (task.Look pa space) ch changes = absurd changes
+raising_fits : (g : GeometryData) (c k : ℕ) (s : Stage) (t : Task) (ch : Change) → IsChangeOf t ch → IsPrefixFit g c k s (Some t) (entries_before g c k t ch ++ change_entry g c k t ch ∷ [])
+raising_fits g c k s (task.Delegate pa source) change.First changes = absurd changes
+raising_fits g c k s (task.Delegate pa source) change.Last changes = (answer.Done no_generations, 1, refl, tt, λ z v is. absurd cc)
+raising_fits g c k s (task.Undelegate pa source) change.First changes = (answer.Done no_generations, 1, refl, tt, λ z v is. absurd cc)
+raising_fits g c k s (task.Undelegate pa source) change.Last changes = (answer.Done no_generations, 3, refl, tt, λ z v is. absurd cc)
+raising_fits g c k s task.Unknown ch changes = absurd changes
+raising_fits g c k s (task.Look pa space) ch changes = absurd changes
 
 no_task_prefix : (g : GeometryData) (c k : ℕ) (s : Stage) → entries_at g c k s None ≡ []
 no_task_prefix g c k stage.Locking = refl
 no_task_prefix g c k s = refl
 
-pub prefix_fits : (g : GeometryData) (c k : ℕ) (s : Stage) (o : Option Task) (events : List CallEvent) → IsStage g s o → IsPrefix g c k s o events → IsPrefixFit g c k o (entries_at g c k s o)
-prefix_fits g c k (stage.Changing ch kept) (Some t) events fits front = changing_fits g c k t ch
-prefix_fits g c k (stage.Raising ch size.Two kept) (Some t) events fits front = raising_fits g c k t ch fits.0
-prefix_fits g c k (stage.Raising ch size.ThirtyTwo kept) (Some t) events fits front = raising_fits g c k t ch fits.0
-prefix_fits g c k (stage.Raising ch size.FiveTwelve kept) (Some t) events fits front = raising_fits g c k t ch fits.0
+pub prefix_fits : (g : GeometryData) (c k : ℕ) (s : Stage) (o : Option Task) (events : List CallEvent) → IsStage g s o → IsPrefix g c k s o events → IsPrefixFit g c k s o (entries_at g c k s o)
+prefix_fits g c k (stage.Changing ch kept) (Some t) events fits front = changing_fits g c k (stage.Changing ch kept) t ch
+prefix_fits g c k (stage.Raising ch size.Two kept) (Some t) events fits front = raising_fits g c k (stage.Raising ch size.Two kept) t ch fits.0
+prefix_fits g c k (stage.Raising ch size.ThirtyTwo kept) (Some t) events fits front = raising_fits g c k (stage.Raising ch size.ThirtyTwo kept) t ch fits.0
+prefix_fits g c k (stage.Raising ch size.FiveTwelve kept) (Some t) events fits front = raising_fits g c k (stage.Raising ch size.FiveTwelve kept) t ch fits.0
 prefix_fits g c k (stage.Merging f kept) (Some t) events fits front =
     let es : List Entry = call_entries (granule_bytes g.setup) c k t (answer.Done kept) in
-    (answer.Done kept, length es, sym (take_all (length es) es (omega arith)), tt)
+    (answer.Done kept, length es, sym (take_all (length es) es (omega arith)), tt, λ z v is. absurd cc)
 prefix_fits g c k (stage.Releasing given) (Some t) events fits front =
     let es : List Entry = call_entries (granule_bytes g.setup) c k t given in
-    (given, length es, sym (take_all (length es) es (omega arith)), decided_fits g c k t given events front)
-prefix_fits g c k s (Some t) events fits front = (answer.Inval, 0, refl, tt)
+    (given, length es, sym (take_all (length es) es (omega arith)), decided_fits g c k t given events front, λ z v is. refl)
+prefix_fits g c k s (Some t) events fits front = (answer.Inval, 0, refl, tt, λ z v is. absurd cc)
 prefix_fits g c k s None events fits front = no_task_prefix g c k s
 
 -- the entries of a prefix are allowed by an answer
-pub prefix_allowed : (g : GeometryData) (c k : ℕ) (t : Task) (made : List Entry) → idle_answer g t ≡ None → IsPrefixFit g c k (Some t) made
-    → (a : Answer) × All (IsOwnEntry g c k t a) made
-prefix_allowed g c k t made acts fits =
+pub prefix_allowed : (g : GeometryData) (c k : ℕ) (s : Stage) (t : Task) (made : List Entry) → idle_answer g t ≡ None → IsPrefixFit g c k s (Some t) made
+    → (a : Answer) × All (IsOwnEntry g c k t a) made × ((z : Size) (v : ℕ) → a ≡ answer.Worn z v → s ≡ stage.Releasing a)
+prefix_allowed g c k s t made acts fits =
     let es : List Entry = call_entries (granule_bytes g.setup) c k t fits.0 in
-    (fits.0, subst (All (IsOwnEntry g c k t fits.0)) (sym fits.2) (All-take (IsOwnEntry g c k t fits.0) fits.1 es (fitting_allowed g c k t fits.0 acts fits.3)))
+    (fits.0, subst (All (IsOwnEntry g c k t fits.0)) (sym fits.2) (All-take (IsOwnEntry g c k t fits.0) fits.1 es (fitting_allowed g c k t fits.0 acts fits.3)), fits.4)

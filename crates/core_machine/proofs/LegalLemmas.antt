@@ -86,7 +86,7 @@ prefix_known : (g : GeometryData) (tasks : List (List Task)) (answers : List (Li
 prefix_known g tasks answers c k s None events fits acts front asks given =
     subst (All (IsKnown g tasks answers)) (sym (prefix_fits g c k s None events fits front)) (All-nil (IsKnown g tasks answers))
 prefix_known g tasks answers c k s (Some t) events fits acts front asks given =
-    let own = prefix_allowed g c k t (entries_at g c k s (Some t)) acts (prefix_fits g c k s (Some t) events fits front) in
+    let own = prefix_allowed g c k s t (entries_at g c k s (Some t)) acts (prefix_fits g c k s (Some t) events fits front) in
     All-weaker (IsOwnEntry g c k t own.0) (IsKnown g tasks answers)
     (λ e is. known_of g tasks answers c k t own.0 e asks (fits_any (answer_at answers c k) own.0 given) is)
     (entries_at g c k s (Some t)) own.1
@@ -183,9 +183,9 @@ made_legal g first callers h tasks tells have made size =
 
 -- ---- it has each call
 
-under_way_of : (g : GeometryData) (c k : ℕ) (o : Option Task) (made : List Entry) → IsPrefixFit g c k o made → IsUnderWay (granule_bytes g.setup) c k o made
-under_way_of g c k None made fits = fits
-under_way_of g c k (Some t) made fits = (fits.0, fits.1, fits.2)
+under_way_of : (g : GeometryData) (c k : ℕ) (s : Stage) (o : Option Task) (made : List Entry) → IsPrefixFit g c k s o made → IsUnderWay (granule_bytes g.setup) c k o made
+under_way_of g c k s None made fits = fits
+under_way_of g c k s (Some t) made fits = (fits.0, fits.1, fits.2)
 
 none_under_way : (bytes c k : ℕ) (o : Option Task) → IsUnderWay bytes c k o []
 none_under_way bytes c k None = refl
@@ -196,7 +196,7 @@ agent_calls : (c : ℕ) (a : AgentData) (h : List Entry) (events : List CallEven
 agent_calls c a h events agent stands own = record {
   under_way = entries_at a.geometry c (length a.answers) a.stage (task_of a);
   in_order = own;
-  beginning = under_way_of a.geometry c (length a.answers) (task_of a) (entries_at a.geometry c (length a.answers) a.stage (task_of a))
+  beginning = under_way_of a.geometry c (length a.answers) a.stage (task_of a) (entries_at a.geometry c (length a.answers) a.stage (task_of a))
       (prefix_fits a.geometry c (length a.answers) a.stage (task_of a) stands.last agent.stage stands.under_way);
 }
 
