@@ -6,48 +6,22 @@ use Rattle.std.specs.Option.{option_map}
 use Rattle.std.proofs.lemmas.Bool.{eqb-true}
 use Rattle.std.proofs.lemmas.Option.{slice_get-map, slice_get-get_or}
 use Rattle.std.proofs.lemmas.List.{map-set, length-set}
-use Rattle.gpi_values.specs.declared.gpi.Gpi.{Gpi}
-use Rattle.gpi_values.specs.declared.gpi.Gpi.TheVariants as gpi
-use Rattle.gpt_descriptors.specs.declared.size.Size.{Size}
-use Rattle.gpt_descriptors.specs.declared.size.Size.TheVariants as size
-use Rattle.gpt_descriptors.specs.declared.size.Generations.{Generations}
-use Rattle.gpt_descriptors.specs.Sizes.{SetupData, granule_bytes, size_bytes, space_bytes, words_of}
-use Rattle.gpt_descriptors.specs.Canonical.{canonical_word}
-use Rattle.gpt_descriptors.specs.Entries.{word_gpi}
-use Rattle.gpt_descriptors.specs.Level0.{l1_index}
-use Rattle.gpt_descriptors.specs.Places.{GeometryData, WordName, Generation, gen_place_of, blocks_in_region, l0_words, l1_index_of, l1_place_of}
+use Rattle.core_machine.proofs.Names.{Gpi, Size, Generations, SetupData, granule_bytes, size_bytes, space_bytes, words_of, canonical_word, word_gpi, l1_index, GeometryData, WordName, Generation, gen_place_of, blocks_in_region, l0_words, l1_index_of, l1_place_of, lock_number, Holder, Step, Whole, apart_by, AreWords, step_of, Task, Answer, Entry, caller_in, call_in, granule_in, State, start, after_entry, state_after, answered_entries, region_of, count_of, Stage, address_of, idle_answer, generation_in, granule_of_task, AgentData, IsAgent, task_of, goes_to, took_at, entries_at, Caller, IsCounted, generation_word, is_on_block, is_inside, open_at, SeesGeneration, SeesAt, is_due_at, is_around, coming_at, known_at, holds, open_by, is_due, IsMade, holder_by, HoldsIn, pairs_of, Scene, state_in, map_in, scene_after}
+use Rattle.core_machine.proofs.Names.gpi
+use Rattle.core_machine.proofs.Names.size
+use Rattle.core_machine.proofs.Names.entry
+use Rattle.core_machine.proofs.Names.stage
+use Rattle.core_machine.proofs.Names.caller
 use Rattle.gpt_descriptors.proofs.PlaceLemmas.{place_below, generation_named}
 use Rattle.gpt_descriptors.proofs.MeaningLemmas.{canonical_meaning}
-use Rattle.bit_locks.specs.Locks.{lock_number}
 use Rattle.table_meaning.specs.Meaning.{BlocksMean}
-use Rattle.table_meaning.specs.Equation.{Holder, Step, Whole, apart_in, apart_by, AreWords, IsAlone}
-use Rattle.table_meaning.specs.Facts.{step_of}
+use Rattle.table_meaning.specs.Equation.{apart_in, IsAlone}
 use Rattle.table_meaning.proofs.StepLemmas.{holder_steps, holder_reads}
-use Rattle.history.specs.declared.call.Task.{Task}
-use Rattle.history.specs.declared.call.Answer.{Answer}
-use Rattle.history.specs.declared.entry.Entry.{Entry}
-use Rattle.history.specs.declared.entry.Entry.TheVariants as entry
-use Rattle.history.specs.Entries.{caller_in, call_in, granule_in}
-use Rattle.history.specs.States.{State, start, after_entry, is_open, state_after}
+use Rattle.history.specs.States.{is_open}
 use Rattle.history.specs.Legality.{StateAllows}
-use Rattle.history.specs.Calls.{answered_entries}
-use Rattle.history.specs.Counts.{region_of, count_of}
-use Rattle.delegate_ops.specs.declared.stage.Stage.{Stage}
-use Rattle.delegate_ops.specs.declared.stage.Stage.TheVariants as stage
-use Rattle.delegate_ops.specs.Deciding.{address_of, idle_answer, generation_in}
-use Rattle.delegate_ops.specs.Script.{granule_of_task}
-use Rattle.delegate_ops.specs.InnerAgents.{AgentData, IsAgent, task_of, goes_to, took_at}
-use Rattle.delegate_ops.specs.InnerEntries.{entries_at}
 use Rattle.delegate_ops.proofs.DecidingLemmas.{acts_inside}
 use Rattle.delegate_ops.proofs.AgentLemmas.{at_stage}
 use Rattle.delegate_ops.proofs.NextLemmas.{acts_index}
-use Rattle.core_machine.specs.declared.caller.Caller.{Caller}
-use Rattle.core_machine.specs.declared.caller.Caller.TheVariants as caller
-use Rattle.core_machine.specs.Facts.{IsCounted, generation_word, is_on_block}
-use Rattle.core_machine.specs.InnerAgentCaller.{is_inside, open_at, SeesGeneration, SeesAt, is_due_at, is_around, coming_at, known_at}
-use Rattle.core_machine.specs.InnerCallers.{holds, open_by, is_due, IsMade, holder_by}
-use Rattle.core_machine.specs.InnerInvariant.{HoldsIn, pairs_of}
-use Rattle.core_machine.specs.InnerScene.{Scene, state_in, map_in, scene_after}
 use Rattle.core_machine.proofs.AddressLemmas.{granule_within, index_at, lock_of, region_at, region_lock, task_lock, task_low, word_by_granule}
 use Rattle.core_machine.proofs.ListLemmas.{one, get_append, get_front, get_last}
 use Rattle.core_machine.proofs.CallerLemmas.{Owner, agent_has, due_alone, holder_there, others_closed, others_whole}

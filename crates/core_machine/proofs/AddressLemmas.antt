@@ -6,21 +6,15 @@ use Rattle.std.proofs.Math.Nat.{mod-add-div, div-lt_iff_lt-mul, mul-div_cancel, 
 use Rattle.std.proofs.lemmas.Nat.{div-add-mod', mul-add-lt, mod_below}
 use Rattle.std.proofs.lemmas.Bool.{cases_Bool, eqb-true, and_parts}
 use Rattle.std.proofs.lemmas.Option.{cond_some}
-use Rattle.gpi_values.specs.declared.gpi.Gpi.{Gpi}
+use Rattle.core_machine.proofs.Names.{Gpi, Size, SetupData, granule_bytes, words_of, table_words, size_bytes, space_bytes, space_granules, space_words, word_gpi, l1_index, GeometryData, IsGeometry, Level1, place_of, l0_words, l1_words, l1_index_of, l1_place_of, lock_number, Task, region_of, address_of, idle_answer, granule_of_task}
+use Rattle.core_machine.proofs.Names.size
 use Rattle.gpt_descriptors.specs.declared.entry.L1Entry.{L1Entry}
-use Rattle.gpt_descriptors.specs.declared.size.Size.{Size}
-use Rattle.gpt_descriptors.specs.declared.size.Size.TheVariants as size
-use Rattle.gpt_descriptors.specs.Sizes.{SetupData, IsSetup, granule_bytes, word_bytes, words_of, table_words, region_bytes, size_bytes, space_bytes, space_granules, space_words}
-use Rattle.gpt_descriptors.specs.Entries.{l1_entry, word_gpi}
-use Rattle.gpt_descriptors.specs.Level0.{is_table, table_count, l1_index}
-use Rattle.gpt_descriptors.specs.Places.{GeometryData, IsGeometry, Level1, place_of, l0_words, l1_words, l1_index_of, l1_place_of}
+use Rattle.gpt_descriptors.specs.Sizes.{IsSetup, word_bytes, region_bytes}
+use Rattle.gpt_descriptors.specs.Entries.{l1_entry}
+use Rattle.gpt_descriptors.specs.Level0.{is_table, table_count}
 use Rattle.gpt_descriptors.proofs.SizeLemmas.{granule_low, word_is, table_whole, table_words_low, words_whole}
 use Rattle.gpt_descriptors.proofs.PlaceLemmas.{l1_index_within}
-use Rattle.bit_locks.specs.Locks.{lock_number}
-use Rattle.history.specs.declared.call.Task.{Task}
-use Rattle.history.specs.Counts.{region_of}
-use Rattle.delegate_ops.specs.Deciding.{address_of, idle_answer, is_unusable}
-use Rattle.delegate_ops.specs.Script.{granule_of_task}
+use Rattle.delegate_ops.specs.Deciding.{is_unusable}
 use Rattle.delegate_ops.proofs.DecidingLemmas.{acts_usable, acts_inside}
 
 -- ---- L1 words by their number in the protected space

@@ -7,44 +7,24 @@ use Rattle.std.proofs.lemmas.Bool.{cases_Bool, eqb-true, eq-eqb, and_parts, or_c
 use Rattle.std.proofs.lemmas.List.Elements.{All-head, All-tail}
 use Rattle.std.proofs.lemmas.List.Folds.{list_any-append}
 use Rattle.std.proofs.lemmas.Option.{slice_get-map}
-use Rattle.gpi_values.specs.declared.gpi.Gpi.{Gpi}
-use Rattle.gpi_values.specs.Values.{value_of}
-use Rattle.gpt_descriptors.specs.declared.size.Size.{Size}
-use Rattle.gpt_descriptors.specs.Sizes.{SetupData, granule_bytes}
-use Rattle.gpt_descriptors.specs.Entries.{word_gpi}
-use Rattle.gpt_descriptors.specs.Places.{GeometryData}
-use Rattle.bit_locks.specs.Locks.{lock_number}
-use Rattle.history.specs.declared.call.Task.{Task}
-use Rattle.history.specs.declared.call.Task.TheVariants as task
-use Rattle.history.specs.declared.call.Answer.{Answer}
 use Rattle.history.specs.declared.call.Answer.TheVariants as answers
-use Rattle.history.specs.declared.entry.Entry.{Entry}
-use Rattle.history.specs.declared.entry.Entry.TheVariants as entry
-use Rattle.delegate_ops.specs.declared.stage.Stage.{Stage}
-use Rattle.delegate_ops.specs.declared.stage.Stage.TheVariants as stage
-use Rattle.delegate_ops.specs.InnerAgents.{AgentData, task_of, HasActs, IsStage}
-use Rattle.core_machine.specs.declared.caller.Caller.{Caller}
-use Rattle.core_machine.specs.declared.caller.Caller.TheVariants as caller
 use Rattle.std.proofs.lemmas.Option.{slice_get_cases}
+use Rattle.core_machine.proofs.Names.{Gpi, value_of, Size, SetupData, granule_bytes, word_gpi, GeometryData, lock_number, Task, Answer, Entry, Stage, AgentData, task_of, HasActs, IsStage, Caller, IsCounted, is_on_block, CallEvent, granule_of_task, address_of, generation_in, granule_place, idle_answer, IsPrefix, Scene, answer_at, answered_entries, entries_by, call_in, caller_in, granule_in, caller_answers, known_answers, holds, entries_at, CallAllows, granule_of, needed, is_by, HoldsIn, IsHistoryOf, coming_at, is_inside}
+use Rattle.core_machine.proofs.Names.task
+use Rattle.core_machine.proofs.Names.entry
+use Rattle.core_machine.proofs.Names.stage
+use Rattle.core_machine.proofs.Names.caller
 use Rattle.core_machine.proofs.LegalLemmas.{HaveTasks, AreMade}
 use Rattle.core_machine.proofs.EntryLemmas.{refused_is, IsOwnEntry, prefix_fits, prefix_allowed}
 use Rattle.core_machine.proofs.AloneLemmas.{all_middle, any_weaker, later_number}
 use Rattle.delegate_ops.proofs.ScriptLemmas.{some_mapped}
 use Rattle.core_machine.proofs.ActLemmas.{on_number}
-use Rattle.core_machine.specs.Facts.{AreAlone, AreWorn, IsCounted, is_on_block}
-use Rattle.delegate_ops.specs.Script.{AreCallEvents, CallEvent, Decides, IsCall, granule_of_task}
-use Rattle.delegate_ops.specs.Deciding.{HasCause, address_of, generation_in, granule_place, idle_answer, is_decided}
-use Rattle.delegate_ops.specs.InnerScript.{IsPrefix}
-use Rattle.core_machine.specs.InnerScene.{Scene}
-use Rattle.history.specs.Calls.{answer_at, answered_entries, entries_by}
-use Rattle.history.specs.Entries.{call_in, caller_in, granule_in}
-use Rattle.core_machine.specs.InnerCallers.{caller_answers, own_of, known_answers, holds}
-use Rattle.delegate_ops.specs.InnerEntries.{entries_at}
+use Rattle.core_machine.specs.Facts.{AreAlone, AreWorn}
+use Rattle.delegate_ops.specs.Script.{AreCallEvents, Decides, IsCall}
+use Rattle.delegate_ops.specs.Deciding.{HasCause, is_decided}
+use Rattle.core_machine.specs.InnerCallers.{own_of}
 use Rattle.gpi_values.proofs.ValueLemmas.{value_one}
-use Rattle.history.specs.Legality.{CallAllows, granule_of, needed}
-use Rattle.history.specs.Counts.{is_by}
-use Rattle.core_machine.specs.InnerInvariant.{IsAlone, HoldsIn, IsHistoryOf}
-use Rattle.core_machine.specs.InnerAgentCaller.{coming_at, is_inside}
+use Rattle.core_machine.specs.InnerInvariant.{IsAlone}
 use Rattle.core_machine.proofs.AddressLemmas.{lock_of, task_lock}
 
 -- ---- causes

@@ -3,28 +3,23 @@ use Rattle.std.proofs.Common.{◌≡◌, ℕ, zero, suc, ◌+◌, ◌*◌, ◌/�
 use Rattle.std.specs.Prelude.{slice_get, slice_index}
 use Rattle.std.proofs.lemmas.Bool.{cases_Bool, ltb-true, ltb-false}
 use Rattle.std.proofs.lemmas.Nat.{div-add-mod', mod_below}
-use Rattle.gpi_values.specs.declared.gpi.Gpi.{Gpi}
-use Rattle.gpt_descriptors.specs.declared.size.Size.{Size}
-use Rattle.gpt_descriptors.specs.declared.size.Size.TheVariants as size
-use Rattle.gpt_descriptors.specs.declared.size.Generations.{Generations}
-use Rattle.gpt_descriptors.specs.declared.entry.L1Entry.TheVariants as l1
+use Rattle.core_machine.proofs.Names.{Gpi, Size, Generations, SetupData, words_of, size_bytes, canonical_word, l1_index, GeometryData, WordName, Level1, place_of, l0_words, l1_words, l1_index_of, Act, Fusing, Testing, Storing, Ended, Holder, Step, apart_by, AreWords, Facts, Keeps, step_of, Task, Kept, Stage, address_of, granule_of_task, AgentData, IsStage, goes_to, HoldsIn, Scene, scene_after, map_in, known_at, SeesGeneration, SeesAt, coming_at, IsMade}
+use Rattle.core_machine.proofs.Names.size
+use Rattle.core_machine.proofs.Names.l1
+use Rattle.core_machine.proofs.Names.act
+use Rattle.core_machine.proofs.Names.fuse
+use Rattle.core_machine.proofs.Names.answer
+use Rattle.core_machine.proofs.Names.stage
+use Rattle.core_machine.proofs.Names.caller
 use Rattle.gpt_descriptors.specs.declared.size.MaxBlock.{MaxBlock}
-use Rattle.gpt_descriptors.specs.Sizes.{SetupData, words_of, size_bytes}
 use Rattle.gpt_descriptors.specs.Entries.{l1_word}
 use Rattle.gpt_descriptors.specs.Fields.{granules_of}
-use Rattle.gpt_descriptors.specs.Canonical.{canonical_word}
-use Rattle.gpt_descriptors.specs.Level0.{l1_index}
-use Rattle.gpt_descriptors.specs.Places.{GeometryData, WordName, Level1, place_of, l0_words, l1_words, l1_index_of}
 use Rattle.gpt_descriptors.proofs.PlaceLemmas.{place_below, generation_named}
 use Rattle.gpt_descriptors.proofs.CanonicalLemmas.{words_some}
-use Rattle.shared_words.specs.declared.act.Act.{Act}
-use Rattle.shared_words.specs.declared.act.Act.TheVariants as act
-use Rattle.table_meaning.specs.declared.fusing.Fusing.{Fusing}
-use Rattle.table_meaning.specs.declared.fusing.Fusing.TheVariants.{Testing, Storing, Ended}
 use Rattle.table_meaning.specs.Splitting.{block_start, split_around}
 use Rattle.table_meaning.specs.Fusing.{block_words, loads_of, load_at, store_at, loaded, stored}
-use Rattle.table_meaning.specs.Equation.{Holder, Step, Splitting, Apart, apart_by, AreWords}
-use Rattle.table_meaning.specs.Facts.{Facts, Keeps, Merges, step_of, merging_step}
+use Rattle.table_meaning.specs.Equation.{Splitting, Apart}
+use Rattle.table_meaning.specs.Facts.{Merges, merging_step}
 use Rattle.table_meaning.proofs.PlaceLemmas.{block_index, load_index, store_index, own_rest}
 use Rattle.table_meaning.proofs.EquationLemmas.{holder_set_same, alone_stays}
 use Rattle.table_meaning.proofs.FusingLemmas.{block_words_is}
@@ -33,27 +28,14 @@ use Rattle.table_meaning.proofs.StepLemmas.{holder_reads, split_store, split_end
 use Rattle.shatter.specs.Splitting.{SplittingData, store_of, next_store, advanced, split_word}
 use Rattle.shatter.proofs.WordLemmas.{split_word_is}
 use Rattle.fuse.specs.Merging.{FuseData}
-use Rattle.fuse.specs.Merging as fuse
-use Rattle.history.specs.declared.call.Task.{Task}
-use Rattle.history.specs.declared.call.Answer.TheVariants as answer
-use Rattle.delegate_ops.specs.declared.stage.Kept.{Kept}
-use Rattle.delegate_ops.specs.declared.stage.Stage.{Stage}
-use Rattle.delegate_ops.specs.declared.stage.Stage.TheVariants as stage
-use Rattle.delegate_ops.specs.Deciding.{address_of}
 use Rattle.delegate_ops.specs.Changing.{first_change, word_in_block}
-use Rattle.delegate_ops.specs.Script.{granule_of_task}
-use Rattle.delegate_ops.specs.InnerAgents.{AgentData, IsStage, IsSplittingOf, IsMergingOf, goes_to, split_stage, merging_stage, merged_stage}
+use Rattle.delegate_ops.specs.InnerAgents.{IsSplittingOf, IsMergingOf, split_stage, merging_stage, merged_stage}
 use Rattle.delegate_ops.proofs.AgentLemmas.{at_stage}
-use Rattle.core_machine.specs.declared.caller.Caller.TheVariants as caller
-use Rattle.core_machine.specs.InnerInvariant.{HoldsIn}
-use Rattle.core_machine.specs.InnerScene.{Scene, scene_after, map_in}
 use Rattle.core_machine.proofs.WordLemmas.{Writes, writes_none, writes_one, is_lock, is_idle, is_generation, generations_left}
 use Rattle.core_machine.proofs.ActLemmas.{Acting, IsAlike, inside_of, seen_of, goes_quietly, holders_of, own_index, holder_at, alone_there, tables_after}
 use Rattle.core_machine.proofs.LockActs.{ActKeeps}
 use Rattle.core_machine.proofs.LoadActs.{first_from, first_entries, load_keeps}
 use Rattle.core_machine.proofs.RaiseActs.{merging_step_of}
-use Rattle.core_machine.specs.InnerAgentCaller.{known_at, SeesGeneration, SeesAt, coming_at}
-use Rattle.core_machine.specs.InnerCallers.{IsMade}
 use Rattle.core_machine.proofs.AddressLemmas.{index_below, word_by_granule, index_at}
 
 -- ---- splitting

@@ -1,22 +1,15 @@
 -- The laws of callers that running words need.
 use Rattle.std.proofs.Common.{◌≡◌, ℕ, true, false, Some, None, sym, refl, ap, ◌∙◌, subst, inl, inr}
 use Rattle.std.specs.Prelude.{slice_get}
-use Rattle.gpt_descriptors.specs.Places.{GeometryData}
-use Rattle.bit_locks.specs.Locks.{lock_number}
-use Rattle.history.specs.declared.call.Task.{Task}
-use Rattle.delegate_ops.specs.Deciding.{address_of, idle_answer}
-use Rattle.delegate_ops.specs.InnerAgents.{AgentData, HasActs, task_of}
+use Rattle.core_machine.proofs.Names.{GeometryData, lock_number, Task, address_of, idle_answer, AgentData, HasActs, task_of, Caller, is_inside, holds}
+use Rattle.core_machine.proofs.Names.caller
 use Rattle.delegate_ops.proofs.AgentLemmas.{took_is_agent}
 use Rattle.delegate_ops.proofs.NextLemmas.{next_there}
-use Rattle.core_machine.specs.declared.caller.Caller.TheVariants as caller
 use Rattle.core_machine.specs.InnerCallerLaws.{ActsKeepTheirCaller, AgentsGoOn, WaitsHaveCauses}
-use Rattle.core_machine.specs.declared.caller.Caller.{Caller}
 use Rattle.core_machine.proofs.AddressLemmas.{task_low}
 use Rattle.core_machine.proofs.CallerLemmas.{agent_inside, made_at_place}
 use Rattle.core_machine.proofs.LawLemmas.{took_leaves}
 use Rattle.core_machine.proofs.FitLemmas.{took_tasks}
-use Rattle.core_machine.specs.InnerAgentCaller.{is_inside}
-use Rattle.core_machine.specs.InnerCallers.{holds}
 use Rattle.core_machine.proofs.ListLemmas.{some_or_none}
 
 -- ---- what an act keeps

@@ -5,29 +5,14 @@ use Rattle.std.specs.Prelude.{slice_get, slice_index}
 use Rattle.std.specs.List.{count_by}
 use Rattle.std.proofs.lemmas.Bool.{cases_Bool, cases_eq, eqb-true, eq-eqb, ne_eqb, and_parts, and_right}
 use Rattle.std.proofs.lemmas.Option.{slice_get-map, slice_get_within, get_or_from_slice_get}
-use Rattle.gpi_values.specs.declared.gpi.Gpi.{Gpi}
-use Rattle.gpt_descriptors.specs.declared.size.Size.{Size}
-use Rattle.gpt_descriptors.specs.declared.size.Size.TheVariants as size
-use Rattle.gpt_descriptors.specs.Sizes.{size_bytes, words_of}
-use Rattle.gpt_descriptors.specs.Places.{GeometryData, gen_place_of}
-use Rattle.bit_locks.specs.Locks.{lock_number}
-use Rattle.table_meaning.specs.Equation.{Holder, Whole}
-use Rattle.table_meaning.specs.Facts.{step_of}
+use Rattle.core_machine.proofs.Names.{Gpi, Size, size_bytes, words_of, GeometryData, gen_place_of, lock_number, Holder, Whole, step_of, Task, Stage, address_of, idle_answer, granule_of_task, AgentData, HasActs, IsAgent, IsStage, task_of, Caller, SeesAt, is_around, is_due_at, is_inside, known_at, open_at, IsMade, Sees, holder_by, holds, is_due, open_by, HoldsIn, pairs_of, Scene}
+use Rattle.core_machine.proofs.Names.size
+use Rattle.core_machine.proofs.Names.stage
+use Rattle.core_machine.proofs.Names.caller
 use Rattle.table_meaning.proofs.FactLemmas.{facts_local}
-use Rattle.history.specs.declared.call.Task.{Task}
-use Rattle.delegate_ops.specs.declared.stage.Stage.{Stage}
-use Rattle.delegate_ops.specs.declared.stage.Stage.TheVariants as stage
-use Rattle.delegate_ops.specs.Deciding.{address_of, idle_answer}
-use Rattle.delegate_ops.specs.Script.{granule_of_task}
-use Rattle.delegate_ops.specs.InnerAgents.{AgentData, HasActs, IsAgent, IsStage, task_of}
 use Rattle.delegate_ops.proofs.DecidingLemmas.{acts_inside}
 use Rattle.delegate_ops.proofs.ScriptLemmas.{some_mapped}
-use Rattle.core_machine.specs.declared.caller.Caller.{Caller}
-use Rattle.core_machine.specs.declared.caller.Caller.TheVariants as caller
-use Rattle.core_machine.specs.InnerAgentCaller.{GivesAt, SeesAt, SeesGenerations, agent_holds, agent_sees, granule_under_way, is_around, is_due_at, is_inside, is_lock_of, known_at, open_at}
-use Rattle.core_machine.specs.InnerCallers.{IsMade, Sees, holder_by, holds, is_due, open_by}
-use Rattle.core_machine.specs.InnerInvariant.{HoldsIn, pairs_of}
-use Rattle.core_machine.specs.InnerScene.{Scene}
+use Rattle.core_machine.specs.InnerAgentCaller.{GivesAt, SeesGenerations, agent_holds, agent_sees, granule_under_way, is_lock_of}
 use Rattle.core_machine.proofs.AddressLemmas.{lock_by_granule, lock_of, region_lock, task_lock, task_low}
 use Rattle.core_machine.proofs.ListLemmas.{count_alone, one}
 use Rattle.core_machine.proofs.LockLemmas.{one_holder}

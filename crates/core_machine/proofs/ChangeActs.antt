@@ -2,41 +2,26 @@
 use Rattle.std.proofs.Common.{◌≡◌, ◌≢◌, ℕ, ◌+◌, ◌/◌, ◌%◌, ◌<◌, ◌∷◌, [], List, Bool, true, not, eqb, Some, length, set, refl, sym, ap, ◌∙◌, subst, arith}
 use Rattle.std.proofs.lemmas.List.{get_or-set_same}
 use Rattle.std.proofs.lemmas.Option.{slice_get_within}
-use Rattle.gpi_values.specs.declared.gpi.Gpi.{Gpi}
-use Rattle.gpi_values.specs.declared.gpi.Gpi.TheVariants as gpi
-use Rattle.gpi_values.specs.Values.{value_of}
+use Rattle.core_machine.proofs.Names.{Gpi, value_of, Holder, apart_by, AreWords, Facts, Keeps, Size, granule_bytes, size_bytes, Level1, place_of, l1_words, l1_index_of, l1_place_of, Task, region_of, Change, Kept, address_of, AgentData, goes_to, Scene, state_in, scene_after, map_in, map_at, granule_of_task, generation_word, comes_before, HoldsIn}
+use Rattle.core_machine.proofs.Names.gpi
+use Rattle.core_machine.proofs.Names.size
+use Rattle.core_machine.proofs.Names.act
+use Rattle.core_machine.proofs.Names.stage
+use Rattle.core_machine.proofs.Names.caller
 use Rattle.gpt_descriptors.specs.Fields.{with_field}
-use Rattle.table_meaning.specs.Equation.{Holder, Apart, apart_by, AreWords}
-use Rattle.table_meaning.specs.Facts.{Facts, Keeps}
+use Rattle.table_meaning.specs.Equation.{Apart}
 use Rattle.table_meaning.proofs.FactLemmas.{changes}
 use Rattle.table_meaning.proofs.StepLemmas.{change_store}
-use Rattle.gpt_descriptors.specs.declared.size.Size.{Size}
-use Rattle.gpt_descriptors.specs.declared.size.Size.TheVariants as size
-use Rattle.gpt_descriptors.specs.Sizes.{granule_bytes, size_bytes}
-use Rattle.gpt_descriptors.specs.Places.{Level1, place_of, l1_words, l1_index_of, l1_place_of}
 use Rattle.gpt_descriptors.proofs.PlaceLemmas.{index_within, place_below, generation_named}
-use Rattle.shared_words.specs.declared.act.Act.TheVariants as act
-use Rattle.history.specs.declared.call.Task.{Task}
-use Rattle.history.specs.Counts.{region_of}
-use Rattle.delegate_ops.specs.declared.stage.Change.{Change}
-use Rattle.delegate_ops.specs.declared.stage.Kept.{Kept}
-use Rattle.delegate_ops.specs.declared.stage.Stage.TheVariants as stage
-use Rattle.delegate_ops.specs.Deciding.{address_of}
 use Rattle.delegate_ops.specs.Changing.{to_of, changed_word}
-use Rattle.delegate_ops.specs.InnerAgents.{AgentData, kept_changed, goes_to}
+use Rattle.delegate_ops.specs.InnerAgents.{kept_changed}
 use Rattle.delegate_ops.proofs.AgentLemmas.{at_stage}
-use Rattle.core_machine.specs.declared.caller.Caller.TheVariants as caller
-use Rattle.core_machine.specs.InnerScene.{Scene, state_in, scene_after, map_in}
 use Rattle.core_machine.proofs.ListLemmas.{one}
 use Rattle.core_machine.proofs.WordLemmas.{writes_one, generations_left}
 use Rattle.core_machine.proofs.ActLemmas.{Acting, inside_of, granule_closed, seen_of, goes_keeps, holders_of, map_has, own_index, holder_at, alone_there, tables_after}
 use Rattle.core_machine.proofs.StepLemmas.{map_elsewhere}
 use Rattle.core_machine.proofs.LockActs.{ActKeeps}
-use Rattle.core_machine.specs.Scenarios.{map_at}
-use Rattle.delegate_ops.specs.Script.{change_entry, granule_of_task}
-use Rattle.core_machine.specs.Facts.{generation_word}
-use Rattle.core_machine.specs.InnerAgentCaller.{comes_before}
-use Rattle.core_machine.specs.InnerInvariant.{HoldsIn}
+use Rattle.delegate_ops.specs.Script.{change_entry}
 use Rattle.core_machine.proofs.AddressLemmas.{index_at}
 
 change_one : (word : ℕ) (b : Bool) → word + one b ≡ word + 0 + one b

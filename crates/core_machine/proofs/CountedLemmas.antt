@@ -3,24 +3,13 @@ use Rattle.std.proofs.Common.{◌≡◌, ℕ, ◌+◌, ◌++◌, ◌∷◌, [], 
 use Rattle.std.specs.Prelude.{◌==◌}
 use Rattle.std.specs.List.{count_by}
 use Rattle.std.proofs.lemmas.List.Sums.{sum_by-append}
-use Rattle.gpi_values.specs.declared.gpi.Gpi.{Gpi}
-use Rattle.gpt_descriptors.specs.declared.size.Size.{Size}
-use Rattle.gpt_descriptors.specs.declared.size.Size.TheVariants as size
-use Rattle.gpt_descriptors.specs.declared.size.Generations.{Generations}
-use Rattle.gpt_descriptors.specs.Sizes.{granule_bytes}
-use Rattle.gpt_descriptors.specs.Places.{GeometryData}
-use Rattle.history.specs.declared.call.Task.{Task}
-use Rattle.history.specs.declared.call.Answer.{Answer}
-use Rattle.history.specs.declared.call.Answer.TheVariants as answer
-use Rattle.history.specs.declared.entry.Entry.{Entry}
-use Rattle.history.specs.declared.entry.Entry.TheVariants as entry
-use Rattle.history.specs.Entries.{granule_in}
-use Rattle.history.specs.Counts.{region_of, is_change, is_completion, count_of, counts_around, is_by}
-use Rattle.delegate_ops.specs.Deciding.{generation_in, worn_answer}
+use Rattle.core_machine.proofs.Names.{Gpi, Size, Generations, granule_bytes, GeometryData, Task, Answer, Entry, granule_in, region_of, count_of, is_by, generation_in, worn_answer, IsCounted, granule_of_task}
+use Rattle.core_machine.proofs.Names.size
+use Rattle.core_machine.proofs.Names.answer
+use Rattle.core_machine.proofs.Names.entry
+use Rattle.history.specs.Counts.{is_change, is_completion, counts_around}
 use Rattle.delegate_ops.proofs.ScriptLemmas.{some_mapped}
 use Rattle.core_machine.proofs.ListLemmas.{one}
-use Rattle.core_machine.specs.Facts.{IsCounted}
-use Rattle.delegate_ops.specs.Script.{granule_of_task}
 
 -- ---- one entry more
 

@@ -4,37 +4,24 @@ use Rattle.std.specs.List.{All}
 use Rattle.std.proofs.lemmas.Bool.{cases_Bool, eq-eqb}
 use Rattle.std.proofs.lemmas.List.{take_all}
 use Rattle.std.proofs.lemmas.List.Elements.{All-nil, All-cons, All-append, All-take}
-use Rattle.gpi_values.specs.declared.gpi.Gpi.{Gpi}
-use Rattle.gpi_values.specs.declared.gpi.Gpi.TheVariants as gpi
-use Rattle.gpi_values.specs.Values.{own_of, value_of}
-use Rattle.gpt_descriptors.specs.declared.size.Size.{Size}
-use Rattle.gpt_descriptors.specs.declared.size.Size.TheVariants as size
-use Rattle.gpt_descriptors.specs.declared.size.Generations.{Generations}
-use Rattle.gpt_descriptors.specs.Sizes.{granule_bytes, space_granules}
-use Rattle.gpt_descriptors.specs.Places.{GeometryData}
-use Rattle.gpt_descriptors.specs.Entries.{word_gpi}
-use Rattle.history.specs.declared.call.Task.{Task}
-use Rattle.history.specs.declared.call.Task.TheVariants as task
-use Rattle.history.specs.declared.call.Answer.{Answer}
-use Rattle.history.specs.declared.call.Answer.TheVariants as answer
-use Rattle.history.specs.declared.entry.Entry.{Entry}
-use Rattle.history.specs.declared.entry.Entry.TheVariants as entry
-use Rattle.history.specs.Entries.{granule_in, caller_in, call_in}
-use Rattle.history.specs.Legality.{granule_of, needed, is_transition, IsChange, CallAllows}
-use Rattle.history.specs.Calls.{call_entries}
-use Rattle.delegate_ops.specs.declared.stage.Change.{Change}
+use Rattle.core_machine.proofs.Names.{Gpi, value_of, Size, Generations, granule_bytes, space_granules, GeometryData, word_gpi, Task, Answer, Entry, granule_in, caller_in, call_in, granule_of, needed, CallAllows, call_entries, Change, Stage, address_of, idle_answer, granule_place, generation_in, worn_answer, IsStage, CallEvent, entries_at, IsPrefix}
+use Rattle.core_machine.proofs.Names.gpi
+use Rattle.core_machine.proofs.Names.size
+use Rattle.core_machine.proofs.Names.task
+use Rattle.core_machine.proofs.Names.answer
+use Rattle.core_machine.proofs.Names.entry
+use Rattle.core_machine.proofs.Names.stage
+use Rattle.gpi_values.specs.Values.{own_of}
+use Rattle.history.specs.Legality.{is_transition, IsChange}
 use Rattle.delegate_ops.specs.declared.stage.Change.TheVariants as change
-use Rattle.delegate_ops.specs.declared.stage.Stage.{Stage}
-use Rattle.delegate_ops.specs.declared.stage.Stage.TheVariants as stage
-use Rattle.delegate_ops.specs.Deciding.{address_of, idle_answer, granule_place, is_needed, refusal_of, generation_in, worn_answer}
-use Rattle.delegate_ops.specs.InnerAgents.{IsChangeOf, IsStage}
-use Rattle.delegate_ops.specs.Script.{CallEvent, Decides, IsCall, change_entry}
+use Rattle.delegate_ops.specs.Deciding.{is_needed, refusal_of}
+use Rattle.delegate_ops.specs.InnerAgents.{IsChangeOf}
+use Rattle.delegate_ops.specs.Script.{Decides, IsCall, change_entry}
 use Rattle.delegate_ops.proofs.DecidingLemmas.{acts_inside}
 use Rattle.delegate_ops.proofs.ScriptLemmas.{some_mapped}
 use Rattle.core_machine.proofs.ListLemmas.{all_one}
 use Rattle.core_machine.proofs.ToldLemmas.{idle_quiet}
-use Rattle.delegate_ops.specs.InnerEntries.{entries_at, entries_before}
-use Rattle.delegate_ops.specs.InnerScript.{IsPrefix}
+use Rattle.delegate_ops.specs.InnerEntries.{entries_before}
 use Rattle.core_machine.proofs.AddressLemmas.{granule_within}
 
 -- ---- granules inside the space

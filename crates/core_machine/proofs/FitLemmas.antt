@@ -4,24 +4,15 @@ use Rattle.std.specs.Prelude.{Result, Ok, Err, IfOk}
 use Rattle.std.specs.List.{All}
 use Rattle.std.proofs.lemmas.List.{length-map}
 use Rattle.std.proofs.lemmas.List.Elements.{All-head, All-tail}
-use Rattle.gpi_values.specs.declared.gpi.Gpi.{Gpi}
-use Rattle.gpt_descriptors.specs.Places.{GeometryData}
-use Rattle.scenario_text.specs.declared.scenario.Scenario.{Scenario}
-use Rattle.scenario_text.specs.declared.scenario.Script.{Script}
-use Rattle.scenario_text.specs.declared.scenario.Script.TheVariants as script
+use Rattle.core_machine.proofs.Names.{Gpi, GeometryData, Scenario, Script, Task, Entry, task_of, Caller, caller_took, caller_answers, IsMade, InvariantFor, caller_of, opening_of, played, geometry_of, task_of_ask, turns_in}
+use Rattle.core_machine.proofs.Names.script
+use Rattle.core_machine.proofs.Names.caller
 use Rattle.scenario_text.specs.Calls.{calls_of as calls_in, AreAnswersOf}
-use Rattle.history.specs.declared.call.Task.{Task}
-use Rattle.history.specs.declared.entry.Entry.{Entry}
 use Rattle.history.specs.declared.outcome.Outcome.{Outcome}
-use Rattle.delegate_ops.specs.InnerAgents.{task_of}
-use Rattle.core_machine.specs.declared.caller.Caller.{Caller}
-use Rattle.core_machine.specs.declared.caller.Caller.TheVariants as caller
-use Rattle.core_machine.specs.InnerCallers.{agent_tasks, caller_took, caller_answers, IsMade}
-use Rattle.core_machine.specs.InnerMachine.{InvariantFor}
-use Rattle.core_machine.specs.InnerPlay.{caller_of, opening_of, played, outcome_of}
+use Rattle.core_machine.specs.InnerCallers.{agent_tasks}
+use Rattle.core_machine.specs.InnerPlay.{outcome_of}
 use Rattle.core_machine.proofs.LawLemmas.{took_leaves}
 use Rattle.core_machine.proofs.MachineLemmas.{turns_leave}
-use Rattle.core_machine.specs.Scenarios.{geometry_of, task_of_ask, turns_in}
 
 -- ---- the calls of a caller
 

@@ -2,24 +2,17 @@
 use Rattle.std.proofs.Common.{◌≡◌, ◌≢◌, ℕ, ◌+◌, ◌*◌, ◌/◌, ◌<◌, ◌⊎◌, List, map, true, Option, Some, None, sym, ap, ◌∙◌, subst, arith, inl, inr}
 use Rattle.std.specs.Prelude.{slice_get, slice_index}
 use Rattle.std.proofs.lemmas.Nat.{mul-le}
-use Rattle.gpt_descriptors.specs.declared.size.Size.TheVariants as size
-use Rattle.gpt_descriptors.specs.Sizes.{SetupData, granule_bytes, word_bytes, words_of, table_words, region_bytes, space_bytes, space_words}
-use Rattle.gpt_descriptors.specs.Canonical.{canonical_word}
-use Rattle.gpt_descriptors.specs.Level0.{l1_index}
-use Rattle.gpt_descriptors.specs.Places.{GeometryData, IsGeometry, l0_words}
+use Rattle.core_machine.proofs.Names.{SetupData, granule_bytes, words_of, table_words, space_bytes, space_words, canonical_word, l1_index, GeometryData, IsGeometry, l0_words, Whole, Holder, apart_by, lock_number, lock_bit, Caller, HoldsIn, Scene, holds, holder_by}
+use Rattle.core_machine.proofs.Names.size
+use Rattle.gpt_descriptors.specs.Sizes.{word_bytes, region_bytes}
 use Rattle.gpt_descriptors.proofs.SizeLemmas.{granule_low, word_is, table_whole}
 use Rattle.table_meaning.specs.Meaning.{TablesMean, AreCanonical}
-use Rattle.table_meaning.specs.Equation.{Whole, Holder, apart_by}
 use Rattle.table_meaning.proofs.EquationLemmas.{free_word}
-use Rattle.bit_locks.specs.Locks.{lock_number, lock_bit}
-use Rattle.core_machine.specs.declared.caller.Caller.{Caller}
-use Rattle.core_machine.specs.InnerInvariant.{LocksAreHeld, HoldsIn}
-use Rattle.core_machine.specs.InnerScene.{Scene}
+use Rattle.core_machine.specs.InnerInvariant.{LocksAreHeld}
 use Rattle.core_machine.specs.Facts.{table_part, map_after}
 use Rattle.core_machine.proofs.CallerLemmas.{holder_there, placed_at}
 use Rattle.core_machine.proofs.AddressLemmas.{lock_by_granule, lock_of, lock_low, index_inside}
 use Rattle.core_machine.proofs.PartLemmas.{part_apart, part_means}
-use Rattle.core_machine.specs.InnerCallers.{holds, holder_by}
 use Rattle.core_machine.proofs.ListLemmas.{some_pass}
 
 -- ---- addresses

@@ -2,25 +2,19 @@
 use Rattle.std.proofs.Common.{◌≡◌, ℕ, ◌+◌, ◌*◌, ◌%◌, ◌<◌, ◌++◌, ◌∷◌, [], Option, Some, None, length, refl, ap, ◌∙◌, subst, inl, inr, sym, Bool, arith, false, ◌/◌, ◌⊎◌, true}
 use Rattle.std.specs.Prelude.{slice_get, option_and_then}
 use Rattle.std.proofs.lemmas.Bool.{cases_Bool, ltb-true}
-use Rattle.gpt_descriptors.specs.Places.{GeometryData, l0_words, l1_words, l1_place_of, Level1, WordName, Generation, IsGeometry, Lock, word_count, gen_place_of, IsWordName, place_of}
-use Rattle.shared_words.specs.declared.act.Act.{Act}
-use Rattle.shared_words.specs.declared.act.Act.TheVariants as act
-use Rattle.shared_words.specs.Acts.{place_in, answer_of}
-use Rattle.bit_locks.specs.Locks.{take_act, release_act, lock_number}
+use Rattle.core_machine.proofs.Names.{GeometryData, l0_words, l1_words, l1_place_of, Level1, WordName, Generation, IsGeometry, Lock, word_count, gen_place_of, IsWordName, place_of, Act, place_in, answer_of, take_act, release_act, lock_number, Task, Stage, address_of, generation_in, idle_answer, AgentData, IsStage, HasActs, task_of, next_of, took_at, Caller, caller_next, IsMade, HoldsIn, Scene, lock_bit_of, granule_of_task, made_at, Gpi, Generations, l1_index, size_bytes, words_of, Fusing, Testing, Storing, Ended, Size, Answer}
+use Rattle.core_machine.proofs.Names.act
+use Rattle.core_machine.proofs.Names.stage
+use Rattle.core_machine.proofs.Names.caller
+use Rattle.core_machine.proofs.Names.size
+use Rattle.core_machine.proofs.Names.l1
+use Rattle.core_machine.proofs.Names.fuse
 use Rattle.invalidate.specs.Generations.{gen_load_of, gen_raise_of}
-use Rattle.history.specs.declared.call.Task.{Task}
-use Rattle.delegate_ops.specs.declared.stage.Stage.{Stage}
-use Rattle.delegate_ops.specs.declared.stage.Stage.TheVariants as stage
-use Rattle.delegate_ops.specs.Deciding.{address_of, generation_in, idle_answer}
 use Rattle.delegate_ops.specs.Changing.{changed_word}
-use Rattle.delegate_ops.specs.InnerAgents.{AgentData, IsStage, IsSplittingOf, IsMergingOf, HasActs, task_of, act_at, next_of, is_held, took_at, took_under_way, took_of}
+use Rattle.delegate_ops.specs.InnerAgents.{IsSplittingOf, IsMergingOf, act_at, is_held, took_under_way, took_of}
 use Rattle.delegate_ops.proofs.AgentLemmas.{took_is_agent}
 use Rattle.delegate_ops.proofs.ScriptLemmas.{some_mapped, step_walks}
-use Rattle.core_machine.specs.declared.caller.Caller.{Caller}
-use Rattle.core_machine.specs.declared.caller.Caller.TheVariants as caller
-use Rattle.core_machine.specs.InnerCallers.{IsCallerOf, MayTake, caller_next, IsMade}
-use Rattle.core_machine.specs.InnerInvariant.{HoldsIn}
-use Rattle.core_machine.specs.InnerScene.{Scene}
+use Rattle.core_machine.specs.InnerCallers.{IsCallerOf, MayTake}
 use Rattle.core_machine.specs.InnerLaw.{OneActKeeps, scene_acted}
 use Rattle.core_machine.specs.InnerCallerLaws.{ActsHavePlaces}
 use Rattle.core_machine.proofs.ActLemmas.{Acting}
@@ -29,28 +23,15 @@ use Rattle.core_machine.proofs.LoadActs.{look_keeps, read_keeps}
 use Rattle.core_machine.proofs.ChangeActs.{change_keeps}
 use Rattle.core_machine.proofs.RaiseActs.{raise_keeps}
 use Rattle.core_machine.proofs.BlockActs.{split_place, split_keeps, merge_keeps}
-use Rattle.delegate_ops.specs.Script.{lock_bit_of, granule_of_task}
-use Rattle.delegate_ops.specs.InnerEntries.{made_at}
 use Rattle.core_machine.proofs.WordLemmas.{is_lock}
 use Rattle.gpt_descriptors.proofs.PlaceLemmas.{generation_named, index_within, place_below}
 use Rattle.delegate_ops.proofs.DecidingLemmas.{acts_inside}
-use Rattle.gpi_values.specs.declared.gpi.Gpi.{Gpi}
 use Rattle.gpt_descriptors.specs.declared.size.MaxBlock.{MaxBlock}
-use Rattle.gpt_descriptors.specs.declared.size.Size.TheVariants as size
-use Rattle.gpt_descriptors.specs.declared.size.Generations.{Generations}
-use Rattle.gpt_descriptors.specs.declared.entry.L1Entry.TheVariants as l1
 use Rattle.gpt_descriptors.specs.Entries.{l1_word}
-use Rattle.gpt_descriptors.specs.Level0.{l1_index}
-use Rattle.gpt_descriptors.specs.Sizes.{size_bytes, words_of}
-use Rattle.table_meaning.specs.declared.fusing.Fusing.{Fusing}
-use Rattle.table_meaning.specs.declared.fusing.Fusing.TheVariants.{Testing, Storing, Ended}
 use Rattle.table_meaning.specs.Fusing.{block_words, loads_of, load_at, store_at}
 use Rattle.table_meaning.proofs.PlaceLemmas.{block_index, load_index, store_index}
 use Rattle.table_meaning.proofs.FusingLemmas.{block_words_is}
 use Rattle.shatter.specs.Splitting.{store_of}
-use Rattle.fuse.specs.Merging as fuse
-use Rattle.gpt_descriptors.specs.declared.size.Size.{Size}
-use Rattle.history.specs.declared.call.Answer.{Answer}
 use Rattle.core_machine.proofs.CallerLemmas.{made_at_place}
 use Rattle.core_machine.proofs.AddressLemmas.{lock_low, index_below, word_by_granule, index_at}
 

@@ -6,30 +6,17 @@ use Rattle.std.specs.Option.{option_map}
 use Rattle.std.proofs.lemmas.Bool.{cases_Bool, eq-eqb}
 use Rattle.std.proofs.lemmas.Option.{slice_get-map, slice_get_cases, slice_get_past}
 use Rattle.std.proofs.lemmas.List.Elements.{All-nil, All-cons, All-head, All-tail, All-append, All-weaker}
-use Rattle.gpi_values.specs.declared.gpi.Gpi.{Gpi}
-use Rattle.gpt_descriptors.specs.Sizes.{granule_bytes, space_granules}
-use Rattle.gpt_descriptors.specs.Places.{GeometryData}
-use Rattle.history.specs.declared.call.Task.{Task}
-use Rattle.history.specs.declared.call.Answer.{Answer}
-use Rattle.history.specs.declared.call.Answer.TheVariants as answer
-use Rattle.history.specs.declared.entry.Entry.{Entry}
-use Rattle.history.specs.Entries.{granule_in, caller_in, call_in}
-use Rattle.history.specs.States.{State, start, after_entry}
-use Rattle.history.specs.Legality.{granule_of, CallAllows}
+use Rattle.core_machine.proofs.Names.{Gpi, granule_bytes, space_granules, GeometryData, Task, Answer, Entry, granule_in, caller_in, call_in, State, start, after_entry, granule_of, CallAllows, entries_by, call_entries, answered_entries, answer_at, Stage, AgentData, IsAgent, HasActs, IsStage, task_of, CallEvent, Caller, caller_answers, entries_at, IsPrefix, AreAllowed, IsHistoryOf}
+use Rattle.core_machine.proofs.Names.answer
+use Rattle.core_machine.proofs.Names.caller
 use Rattle.history.specs.Calls as calls
-use Rattle.history.specs.Calls.{entries_by, call_entries, answered_entries, IsUnderWay, task_at, answer_at, Fits, IsLegalHistory, HasCalls}
-use Rattle.delegate_ops.specs.declared.stage.Stage.{Stage}
-use Rattle.delegate_ops.specs.InnerAgents.{AgentData, IsAgent, HasActs, IsStage, task_of}
-use Rattle.delegate_ops.specs.Script.{CallEvent, AreCallEvents}
-use Rattle.core_machine.specs.declared.caller.Caller.{Caller}
-use Rattle.core_machine.specs.declared.caller.Caller.TheVariants as caller
-use Rattle.core_machine.specs.InnerCallers.{caller_answers, own_of}
+use Rattle.history.specs.Calls.{IsUnderWay, task_at, Fits, IsLegalHistory, HasCalls}
+use Rattle.delegate_ops.specs.Script.{AreCallEvents}
+use Rattle.core_machine.specs.InnerCallers.{own_of}
 use Rattle.core_machine.proofs.AloneLemmas.{own_first}
 use Rattle.core_machine.proofs.ActLemmas.{length_after}
 use Rattle.core_machine.proofs.EntryLemmas.{IsOwnEntry, call_allowed, IsPrefixFit, prefix_fits, prefix_allowed}
-use Rattle.delegate_ops.specs.InnerEntries.{entries_at}
-use Rattle.delegate_ops.specs.InnerScript.{HasWalked, IsPrefix}
-use Rattle.core_machine.specs.InnerInvariant.{AreAllowed, IsHistoryOf}
+use Rattle.delegate_ops.specs.InnerScript.{HasWalked}
 
 -- ---- an entry that its call allows
 

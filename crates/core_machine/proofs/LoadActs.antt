@@ -3,54 +3,36 @@ use Rattle.std.proofs.Common.{◌≡◌, ℕ, ◌/◌, ◌++◌, ◌∷◌, [], 
 use Rattle.std.specs.Prelude.{slice_index}
 use Rattle.std.proofs.lemmas.Bool.{cases_Bool, eqb-true}
 use Rattle.std.proofs.lemmas.List.{set-get_or}
-use Rattle.gpi_values.specs.declared.gpi.Gpi.{Gpi}
-use Rattle.gpi_values.specs.declared.gpi.Gpi.TheVariants as gpi
+use Rattle.core_machine.proofs.Names.{Gpi, Size, Generations, granule_bytes, canonical_word, GeometryData, gen_place_of, l1_place_of, Whole, step_of, Task, Answer, Entry, needed, count_of, region_of, Kept, Stage, address_of, idle_answer, granule_place, generation_in, worn_answer, AgentData, is_look, goes_to, took_at, fresh, HoldsIn, Scene, scene_after, map_in, IsCounted, entries_at, made_at, granule_of_task, is_inside, known_at, comes_before, SeesGeneration, open_at, is_due_at, IsMade}
+use Rattle.core_machine.proofs.Names.gpi
+use Rattle.core_machine.proofs.Names.size
+use Rattle.core_machine.proofs.Names.l1
+use Rattle.core_machine.proofs.Names.act
+use Rattle.core_machine.proofs.Names.task
+use Rattle.core_machine.proofs.Names.answer
+use Rattle.core_machine.proofs.Names.entry
+use Rattle.core_machine.proofs.Names.stage
+use Rattle.core_machine.proofs.Names.caller
 use Rattle.gpi_values.specs.Values.{own_of}
 use Rattle.gpi_values.proofs.ValueLemmas.{value_one}
-use Rattle.gpt_descriptors.specs.declared.size.Size.{Size}
-use Rattle.gpt_descriptors.specs.declared.size.Size.TheVariants as size
-use Rattle.gpt_descriptors.specs.declared.size.Generations.{Generations}
-use Rattle.gpt_descriptors.specs.Sizes.{granule_bytes}
 use Rattle.gpt_descriptors.specs.declared.entry.L1Entry.{L1Entry}
-use Rattle.gpt_descriptors.specs.declared.entry.L1Entry.TheVariants as l1
 use Rattle.gpt_descriptors.specs.Entries.{l1_entry}
-use Rattle.gpt_descriptors.specs.Canonical.{canonical_word}
-use Rattle.gpt_descriptors.specs.Places.{GeometryData, gen_place_of, l1_place_of}
-use Rattle.shared_words.specs.declared.act.Act.TheVariants as act
 use Rattle.invalidate.specs.Generations.{gen_load_of}
-use Rattle.table_meaning.specs.Equation.{Whole}
-use Rattle.table_meaning.specs.Facts.{step_of}
 use Rattle.table_meaning.proofs.FactLemmas.{splits, looked_none, keeps}
 use Rattle.table_meaning.proofs.StepLemmas.{split_begin, no_split}
-use Rattle.history.specs.declared.call.Task.{Task}
-use Rattle.history.specs.declared.call.Task.TheVariants as task
-use Rattle.history.specs.declared.call.Answer.{Answer}
-use Rattle.history.specs.declared.call.Answer.TheVariants as answer
-use Rattle.history.specs.declared.entry.Entry.{Entry}
-use Rattle.history.specs.declared.entry.Entry.TheVariants as entry
-use Rattle.history.specs.Legality.{needed}
-use Rattle.history.specs.Counts.{counts_around, count_of, region_of}
-use Rattle.delegate_ops.specs.declared.stage.Kept.{Kept}
-use Rattle.delegate_ops.specs.declared.stage.Stage.{Stage}
-use Rattle.delegate_ops.specs.declared.stage.Stage.TheVariants as stage
-use Rattle.delegate_ops.specs.Deciding.{address_of, idle_answer, is_needed, refusal_of, granule_place, looked_answer, generation_in, worn_answer}
+use Rattle.history.specs.Counts.{counts_around}
+use Rattle.delegate_ops.specs.Deciding.{is_needed, refusal_of, looked_answer}
 use Rattle.delegate_ops.specs.Changing.{first_change, from_of}
-use Rattle.delegate_ops.specs.InnerAgents.{AgentData, IsReadable, is_look, looked_stage, loaded_stage, read_all, read_stage, kept_read, goes_to, took_at, fresh}
+use Rattle.delegate_ops.specs.InnerAgents.{IsReadable, looked_stage, loaded_stage, read_all, read_stage, kept_read}
 use Rattle.delegate_ops.proofs.AgentLemmas.{at_stage, no_look_at}
 use Rattle.delegate_ops.proofs.ScriptLemmas.{some_mapped}
 use Rattle.core_machine.proofs.EntryLemmas.{refused_is}
-use Rattle.core_machine.specs.declared.caller.Caller.TheVariants as caller
-use Rattle.core_machine.specs.InnerInvariant.{HoldsIn}
-use Rattle.core_machine.specs.InnerScene.{Scene, scene_after, map_in}
 use Rattle.core_machine.proofs.ActLemmas.{canonical_gives, reads_own, map_has, holders_of, holder_at, alone_there, tables_after, tables_stay, Acting, granule_closed, counts_of, seen_of, raised_same, goes_keeps, load_quietly}
 use Rattle.core_machine.proofs.WordLemmas.{writes_none}
 use Rattle.core_machine.proofs.CountedLemmas.{worn_counted}
 use Rattle.core_machine.proofs.LockActs.{ActKeeps}
-use Rattle.core_machine.specs.Facts.{IsCounted}
-use Rattle.delegate_ops.specs.InnerEntries.{entries_at, known_entries, made_at}
-use Rattle.delegate_ops.specs.Script.{granule_of_task}
-use Rattle.core_machine.specs.InnerAgentCaller.{is_inside, known_at, comes_before, SeesGeneration, SeesGenerations, open_at, is_due_at}
-use Rattle.core_machine.specs.InnerCallers.{IsMade}
+use Rattle.delegate_ops.specs.InnerEntries.{known_entries}
+use Rattle.core_machine.specs.InnerAgentCaller.{SeesGenerations}
 use Rattle.core_machine.proofs.AddressLemmas.{word_readable}
 
 -- ---- a load

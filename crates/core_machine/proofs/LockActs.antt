@@ -5,30 +5,13 @@ use Rattle.std.specs.Int.{bit_not, w64}
 use Rattle.std.specs.Int.Bits.{bit_and, bit_or}
 use Rattle.std.specs.List.{list_any}
 use Rattle.std.proofs.lemmas.Bool.{cases_Bool, eqb-true, eq-eqb}
-use Rattle.gpi_values.specs.declared.gpi.Gpi.{Gpi}
-use Rattle.gpt_descriptors.specs.declared.size.Size.{Size}
-use Rattle.gpt_descriptors.specs.Sizes.{granule_bytes}
-use Rattle.gpt_descriptors.specs.Places.{GeometryData, Lock}
-use Rattle.shared_words.specs.declared.act.Act.{Act}
-use Rattle.shared_words.specs.Acts.{answer_of, after_act}
-use Rattle.bit_locks.specs.Locks.{lock_bit, take_act, release_act}
-use Rattle.history.specs.declared.call.Task.{Task}
-use Rattle.history.specs.declared.call.Answer.{Answer}
-use Rattle.history.specs.declared.entry.Entry.{Entry}
-use Rattle.history.specs.Counts.{is_by}
-use Rattle.history.specs.Calls.{entries_by, answered_entries}
-use Rattle.delegate_ops.specs.declared.stage.Stage.{Stage}
-use Rattle.delegate_ops.specs.declared.stage.Stage.TheVariants as stage
-use Rattle.delegate_ops.specs.Deciding.{idle_answer}
-use Rattle.delegate_ops.specs.InnerAgents.{AgentData, IsReadable, answered_first, idle_answers, goes_to, waits_at, after_answer, took_at}
+use Rattle.core_machine.proofs.Names.{Gpi, Size, granule_bytes, GeometryData, Lock, Act, answer_of, after_act, lock_bit, take_act, release_act, Task, Answer, Entry, is_by, entries_by, answered_entries, Stage, idle_answer, AgentData, idle_answers, goes_to, took_at, Caller, holds, holder_by, Sees, open_by, is_due, known_answers, caller_tasks, IsMade, Whole, step_of, HoldsIn, Scene, scene_after, IsCounted, lock_bit_of, made_at, known_at}
+use Rattle.core_machine.proofs.Names.stage
+use Rattle.core_machine.proofs.Names.caller
+use Rattle.delegate_ops.specs.InnerAgents.{IsReadable, answered_first, waits_at, after_answer}
 use Rattle.delegate_ops.proofs.AgentLemmas.{at_stage}
-use Rattle.core_machine.specs.declared.caller.Caller.{Caller}
-use Rattle.core_machine.specs.declared.caller.Caller.TheVariants as caller
-use Rattle.core_machine.specs.InnerCallers.{own_of, call_of, holds, holder_by, Sees, open_by, is_due, known_answers, caller_tasks, IsMade}
-use Rattle.table_meaning.specs.Equation.{Whole}
-use Rattle.table_meaning.specs.Facts.{step_of}
-use Rattle.core_machine.specs.InnerInvariant.{IsAlone, HoldsIn}
-use Rattle.core_machine.specs.InnerScene.{Scene, scene_after}
+use Rattle.core_machine.specs.InnerCallers.{own_of, call_of}
+use Rattle.core_machine.specs.InnerInvariant.{IsAlone}
 use Rattle.core_machine.proofs.ListLemmas.{one, get_append}
 use Rattle.core_machine.proofs.LockLemmas.{holder_bit, take_free, take_held, release_held}
 use Rattle.core_machine.proofs.WordLemmas.{writes_one}
@@ -36,10 +19,6 @@ use Rattle.core_machine.proofs.StepLemmas.{aside_keeps}
 use Rattle.core_machine.proofs.ToldLemmas.{answered_call, idle_is}
 use Rattle.core_machine.proofs.AloneLemmas.{alone_starts, own_numbers, no_own}
 use Rattle.core_machine.proofs.ActLemmas.{Acting, low_of, lock_of_task}
-use Rattle.core_machine.specs.Facts.{IsCounted}
-use Rattle.delegate_ops.specs.Script.{lock_bit_of}
-use Rattle.delegate_ops.specs.InnerEntries.{made_at}
-use Rattle.core_machine.specs.InnerAgentCaller.{known_at}
 
 -- what an act keeps that is made at a stage
 abbrev pub ActKeeps : Scene → ℕ → AgentData → Task → Stage → Act → Type 0

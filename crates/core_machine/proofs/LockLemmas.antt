@@ -6,11 +6,9 @@ use Rattle.std.specs.Int.Bits.{bit_and, bit_or}
 use Rattle.std.specs.List.{count_by}
 use Rattle.std.proofs.lemmas.Bool.{cases_eq, eq-eqb, ne_eqb}
 use Rattle.std.proofs.lemmas.Nat.Bits.{bit_at-lt}
-use Rattle.bit_locks.specs.Locks.{lock_bit}
+use Rattle.core_machine.proofs.Names.{lock_bit, Caller, holds}
 use Rattle.bit_locks.proofs.BitLemmas.{taken_bit, released_bit, mask_free}
-use Rattle.core_machine.specs.declared.caller.Caller.{Caller}
 use Rattle.core_machine.proofs.ListLemmas.{one, count_set, some_pass, pass_once}
-use Rattle.core_machine.specs.InnerCallers.{holds}
 use Rattle.core_machine.specs.InnerInvariant.{LocksAreHeld}
 
 -- one caller steps, and the words change with what it holds

@@ -7,14 +7,10 @@ use Rattle.std.proofs.lemmas.Option.{slice_get_within}
 use Rattle.std.proofs.lemmas.List.Concat.{flat_map-cons}
 use Rattle.std.proofs.lemmas.Grind.{flat_map-append}
 use Rattle.std.proofs.lemmas.List.{set-get_or, length-set, replicate-append-replicate, take_more}
-use Rattle.gpi_values.specs.declared.gpi.Gpi.{Gpi}
-use Rattle.shared_words.specs.declared.act.Act.{Act}
-use Rattle.shared_words.specs.Acts.{place_in, answer_of, after_act, said}
-use Rattle.history.specs.declared.entry.Entry.{Entry}
-use Rattle.core_machine.specs.declared.caller.Caller.{Caller}
-use Rattle.core_machine.specs.InnerCallers.{caller_next, caller_took, made_by, MayTake}
-use Rattle.core_machine.specs.InnerMachine.{MachineData, HasInvariant, InvariantFor, KeepsInvariant, after_act_of, after_turn, after_turn_of, after_turns, event_of, scene_of, trace_of, turn_entries, turn_event, turn_event_of}
-use Rattle.core_machine.specs.Trace.{TraceEvent, history_of}
+use Rattle.core_machine.proofs.Names.{Gpi, Act, place_in, answer_of, after_act, Entry, Caller, caller_next, caller_took, MachineData, InvariantFor, after_turn, after_turns, scene_of, trace_of, TraceEvent, history_of}
+use Rattle.shared_words.specs.Acts.{said}
+use Rattle.core_machine.specs.InnerCallers.{made_by, MayTake}
+use Rattle.core_machine.specs.InnerMachine.{HasInvariant, KeepsInvariant, after_act_of, after_turn_of, event_of, turn_entries, turn_event, turn_event_of}
 use Rattle.core_machine.proofs.LawLemmas.{one_act}
 use Rattle.core_machine.specs.Scenarios.{round_turns}
 

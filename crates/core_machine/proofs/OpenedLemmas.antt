@@ -5,15 +5,11 @@ use Rattle.std.specs.List.{flat_map, list_any}
 use Rattle.std.proofs.lemmas.Bool.{cases_Bool, cases_eq, eq-eqb, eqb-true, ne_eqb}
 use Rattle.std.proofs.lemmas.List.Concat.{flat_map-cons}
 use Rattle.std.proofs.lemmas.List.Elements.{filter-append}
-use Rattle.gpi_values.specs.declared.gpi.Gpi.{Gpi}
-use Rattle.history.specs.declared.entry.Entry.{Entry}
-use Rattle.history.specs.declared.entry.Entry.TheVariants as entry
-use Rattle.history.specs.Entries.{granule_in}
-use Rattle.history.specs.States.{State, after_entry, is_open, without}
-use Rattle.core_machine.specs.declared.caller.Caller.{Caller}
-use Rattle.core_machine.specs.InnerInvariant.{pairs_of, OpenAreHeld}
+use Rattle.core_machine.proofs.Names.{Gpi, Entry, granule_in, State, after_entry, Caller, pairs_of, open_by}
+use Rattle.core_machine.proofs.Names.entry
+use Rattle.history.specs.States.{is_open, without}
+use Rattle.core_machine.specs.InnerInvariant.{OpenAreHeld}
 use Rattle.core_machine.proofs.ListLemmas.{get_set, get_set_here}
-use Rattle.core_machine.specs.InnerCallers.{open_by}
 
 -- ---- the pairs of one granule
 

@@ -10,19 +10,15 @@ use Rattle.std.proofs.Math.Nat.{div-lt_iff_lt-mul}
 use Rattle.std.proofs.lemmas.List.FromFn.{length-map-range_with_len, get_or-map-range_with_len}
 use Rattle.std.proofs.lemmas.Nat.{div_below}
 use Rattle.std.proofs.lemmas.Option.{get_or_from_slice_get, slice_get_within}
-use Rattle.gpi_values.specs.declared.gpi.Gpi.{Gpi}
-use Rattle.gpi_values.specs.declared.gpi.Gpi.TheVariants as gpi
-use Rattle.gpt_descriptors.specs.declared.size.Size.{Size}
-use Rattle.gpt_descriptors.specs.declared.size.Size.TheVariants as size
-use Rattle.gpt_descriptors.specs.Sizes.{SetupData, granule_bytes, words_of, table_words, space_words, space_granules}
+use Rattle.core_machine.proofs.Names.{Gpi, Size, SetupData, granule_bytes, words_of, table_words, space_words, space_granules, canonical_word, l1_index, GeometryData, IsGeometry, Lock, Generation, Level1, place_of, l0_words, l1_words, Holder, Whole, Task, Answer, caller_in, answered_entries, AgentData, IsAgent, idle_answers, IsMade, Sees, holds, is_due, known_answers, open_by, holder_by, HoldsIn, pairs_of, Caller, map_at, IsCounted}
+use Rattle.core_machine.proofs.Names.gpi
+use Rattle.core_machine.proofs.Names.size
+use Rattle.core_machine.proofs.Names.caller
 use Rattle.gpt_descriptors.specs.Entries.{l0_entry}
-use Rattle.gpt_descriptors.specs.Canonical.{canonical_word}
-use Rattle.gpt_descriptors.specs.Level0.{l1_index}
-use Rattle.gpt_descriptors.specs.Places.{GeometryData, IsGeometry, Lock, Generation, Duty, Level1, Line, place_of, l0_words, l1_words, block_gpi_in}
+use Rattle.gpt_descriptors.specs.Places.{Duty, Line, block_gpi_in}
 use Rattle.gpt_descriptors.proofs.SizeLemmas.{table_is}
 use Rattle.gpt_descriptors.proofs.CanonicalLemmas.{words_some}
 use Rattle.table_meaning.specs.Meaning.{BlocksMean}
-use Rattle.table_meaning.specs.Equation.{Holder, Whole}
 use Rattle.table_meaning.proofs.ChangeLemmas.{canonical_local}
 use Rattle.table_meaning.proofs.EquationLemmas.{all_whole}
 use Rattle.region_plan.specs.declared.region.Region.{Region}
@@ -32,22 +28,14 @@ use Rattle.table_build.specs.Built.{region_l1, is_bad_base}
 use Rattle.table_build.proofs.MeaningLemmas.{built_word, built_block}
 use Rattle.shared_words.specs.Start.{start_words}
 use Rattle.shared_words.proofs.StartLemmas.{start_count, start_named}
-use Rattle.history.specs.declared.call.Task.{Task}
-use Rattle.history.specs.declared.call.Answer.{Answer}
-use Rattle.history.specs.Entries.{caller_in}
-use Rattle.history.specs.Calls.{answered_entries}
-use Rattle.delegate_ops.specs.InnerAgents.{AgentData, IsAgent, idle_answers}
 use Rattle.delegate_ops.proofs.ScriptLemmas.{fresh_walked}
 use Rattle.core_machine.proofs.AloneLemmas.{undisturbed_empty}
 use Rattle.core_machine.proofs.ListLemmas.{count_none}
 use Rattle.core_machine.proofs.LockActs.{idle_counted}
 use Rattle.core_machine.proofs.ToldLemmas.{idle_entries}
-use Rattle.core_machine.specs.InnerCallers.{IsMade, Sees, holds, is_due, known_answers, open_by, own_of, IsFresh, holder_by}
-use Rattle.core_machine.specs.InnerInvariant.{HoldsIn, pairs_of, table_word, AreTables}
-use Rattle.core_machine.specs.declared.caller.Caller.{Caller}
-use Rattle.core_machine.specs.declared.caller.Caller.TheVariants as caller
-use Rattle.core_machine.specs.Scenarios.{map_at}
-use Rattle.core_machine.specs.Facts.{IsCounted, map_after}
+use Rattle.core_machine.specs.InnerCallers.{own_of, IsFresh}
+use Rattle.core_machine.specs.InnerInvariant.{table_word, AreTables}
+use Rattle.core_machine.specs.Facts.{map_after}
 use Rattle.core_machine.specs.InnerOpening.{AreStarting}
 use Rattle.core_machine.proofs.CallerLemmas.{holder_there}
 use Rattle.core_machine.proofs.AddressLemmas.{index_inside, index_below}

@@ -5,31 +5,24 @@ use Rattle.std.proofs.Math.Seq.{take-append_seam}
 use Rattle.std.proofs.lemmas.List.{length-map}
 use Rattle.std.proofs.lemmas.List.FromFn.{length-map-range_with_len}
 use Rattle.std.proofs.lemmas.List.Elements.{All-nil, All-cons, All-from_recursion}
-use Rattle.gpt_descriptors.specs.Places.{GeometryData, IsGeometry, l0_words}
+use Rattle.core_machine.proofs.Names.{GeometryData, IsGeometry, l0_words, Scenario, Script, Task, IsAgent, is_look, task_of, fresh, Caller, MachineData, InvariantFor, after_turns, trace_of, history_of, caller_of, opening_of, played, first_map, geometry_of, task_of_ask, turns_in}
+use Rattle.core_machine.proofs.Names.script
 use Rattle.gpt_descriptors.specs.Entries.{l0_word}
 use Rattle.region_plan.specs.Regions.{region_l0, region_entry}
 use Rattle.table_build.specs.TableData.{TableData, AreTables}
 use Rattle.table_build.specs.Built.{tables_of, region_l1}
 use Rattle.shared_words.specs.Start.{start_words}
-use Rattle.scenario_text.specs.declared.scenario.Scenario.{Scenario}
-use Rattle.scenario_text.specs.declared.scenario.Script.{Script}
-use Rattle.scenario_text.specs.declared.scenario.Script.TheVariants as script
 use Rattle.scenario_text.specs.declared.scenario.Slot.{Slot}
 use Rattle.scenario_text.specs.declared.scenario.Slot.TheVariants as slot
 use Rattle.scenario_text.specs.Spelling.{IsSlot, WellFormed}
-use Rattle.history.specs.declared.call.Task.{Task}
-use Rattle.delegate_ops.specs.InnerAgents.{IsAgent, is_look, task_of, fresh}
 use Rattle.delegate_ops.proofs.AgentLemmas.{idle_few, idle_then_acts, locking_fits}
-use Rattle.core_machine.specs.declared.caller.Caller.{Caller}
 use Rattle.core_machine.specs.InnerCallers.{IsFresh}
 use Rattle.core_machine.specs.InnerOpening.{AreStarting}
-use Rattle.core_machine.specs.InnerMachine.{MachineData, InvariantFor, after_turns, trace_of}
-use Rattle.core_machine.specs.Trace.{history_of}
-use Rattle.core_machine.specs.InnerPlay.{caller_of, opening_of, NamesCaller, played}
+use Rattle.core_machine.specs.InnerPlay.{NamesCaller}
 use Rattle.core_machine.proofs.CallLemmas.{asks_no_looks}
 use Rattle.core_machine.proofs.MachineLemmas.{turns_hold}
 use Rattle.core_machine.proofs.OpeningLemmas.{opening_invariant, built_starts}
-use Rattle.core_machine.specs.Scenarios.{IsAccepted, first_map, geometry_of, slot_turns, task_of_ask, turns_in}
+use Rattle.core_machine.specs.Scenarios.{IsAccepted, slot_turns}
 
 -- ---- callers
 

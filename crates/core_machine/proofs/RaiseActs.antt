@@ -3,48 +3,29 @@ use Rattle.std.proofs.Common.{◌≡◌, ◌≢◌, ℕ, ◌+◌, ◌*◌, ◌/�
 use Rattle.std.specs.Prelude.{IfSome}
 use Rattle.std.proofs.lemmas.Bool.{cases_eq, eq-eqb, ne_eqb}
 use Rattle.std.proofs.lemmas.List.{get_or-set_same}
-use Rattle.gpt_descriptors.specs.declared.size.Size.{Size}
-use Rattle.gpt_descriptors.specs.declared.size.Size.TheVariants as size
-use Rattle.gpt_descriptors.specs.declared.size.Generations.{Generations}
-use Rattle.gpt_descriptors.specs.Sizes.{granule_bytes, size_bytes}
-use Rattle.gpi_values.specs.declared.gpi.Gpi.{Gpi}
-use Rattle.gpt_descriptors.specs.Sizes.{words_of}
+use Rattle.core_machine.proofs.Names.{Size, Generations, granule_bytes, size_bytes, Gpi, words_of, GeometryData, Generation, Level1, place_of, l1_index_of, gen_place_of, blocks_in_region, Act, Fusing, Testing, Storing, Ended, Step, Whole, apart_by, AreWords, Facts, Keeps, step_of, Task, Answer, Entry, region_of, Change, Kept, Stage, address_of, generation_in, AgentData, IsStage, task_of, goes_to, HoldsIn, Scene, state_in, scene_after, map_in, IsCounted, generation_word, entries_at, made_at, granule_of_task, is_inside, open_at, comes_before, SeesGeneration, SeesAt, is_due_at, is_around, coming_at, known_at, is_due, IsMade}
+use Rattle.core_machine.proofs.Names.size
+use Rattle.core_machine.proofs.Names.fuse
+use Rattle.core_machine.proofs.Names.task
+use Rattle.core_machine.proofs.Names.answer
+use Rattle.core_machine.proofs.Names.entry
+use Rattle.core_machine.proofs.Names.stage
+use Rattle.core_machine.proofs.Names.caller
 use Rattle.gpt_descriptors.specs.Fields.{equal_gpi}
 use Rattle.gpt_descriptors.specs.Canonical.{largest_block}
-use Rattle.gpt_descriptors.specs.Places.{GeometryData, Generation, Level1, place_of, l1_index_of, gen_place_of, blocks_in_region}
 use Rattle.gpt_descriptors.proofs.PlaceLemmas.{generation_named}
-use Rattle.shared_words.specs.declared.act.Act.{Act}
-use Rattle.table_meaning.specs.declared.fusing.Fusing.{Fusing}
-use Rattle.table_meaning.specs.declared.fusing.Fusing.TheVariants.{Testing, Storing, Ended}
 use Rattle.table_meaning.specs.Fusing.{begun}
-use Rattle.table_meaning.specs.Equation.{Step, Whole, apart_by, AreWords}
-use Rattle.table_meaning.specs.Facts.{Facts, Keeps, Merges, step_of, merging_step}
+use Rattle.table_meaning.specs.Facts.{Merges, merging_step}
 use Rattle.table_meaning.proofs.FactLemmas.{merges}
 use Rattle.table_meaning.proofs.TestLemmas.{finds_largest}
 use Rattle.gpt_descriptors.proofs.PackedLemmas.{equal_found, equal_none}
 use Rattle.table_meaning.proofs.StepLemmas.{load_words, no_merge, begun_unstored}
 use Rattle.fuse.specs.Merging.{FuseData}
-use Rattle.fuse.specs.Merging as fuse
 use Rattle.invalidate.specs.Generations.{gen_raise_of}
-use Rattle.history.specs.declared.call.Task.{Task}
-use Rattle.history.specs.declared.call.Task.TheVariants as task
-use Rattle.history.specs.declared.call.Answer.{Answer}
-use Rattle.history.specs.declared.call.Answer.TheVariants as answer
-use Rattle.history.specs.declared.entry.Entry.{Entry}
-use Rattle.history.specs.declared.entry.Entry.TheVariants as entry
-use Rattle.history.specs.Counts.{region_of}
-use Rattle.delegate_ops.specs.declared.stage.Change.{Change}
 use Rattle.delegate_ops.specs.declared.stage.Change.TheVariants as change
-use Rattle.delegate_ops.specs.declared.stage.Kept.{Kept}
-use Rattle.delegate_ops.specs.declared.stage.Stage.{Stage}
-use Rattle.delegate_ops.specs.declared.stage.Stage.TheVariants as stage
-use Rattle.delegate_ops.specs.Deciding.{address_of, generation_in}
 use Rattle.delegate_ops.specs.Changing.{from_of, to_of, raised_at}
-use Rattle.delegate_ops.specs.InnerAgents.{AgentData, IsChangeOf, IsStage, number_of, task_of, kept_raised, merging_stage, merged_stage, raised_stage, goes_to}
+use Rattle.delegate_ops.specs.InnerAgents.{IsChangeOf, number_of, kept_raised, merging_stage, merged_stage, raised_stage}
 use Rattle.delegate_ops.proofs.AgentLemmas.{at_stage}
-use Rattle.core_machine.specs.declared.caller.Caller.TheVariants as caller
-use Rattle.core_machine.specs.InnerInvariant.{HoldsIn}
-use Rattle.core_machine.specs.InnerScene.{Scene, state_in, scene_after, map_in}
 use Rattle.core_machine.proofs.ListLemmas.{one}
 use Rattle.core_machine.proofs.ActLemmas.{IsOwn, holders_of, holder_at, alone_there, tables_after, tables_stay, Acting, inside_of, generation_below, closed_of, counts_of, seen_of, goes_keeps}
 use Rattle.core_machine.proofs.WordLemmas.{Writes, writes_one, words_left, generation_left}
@@ -54,11 +35,7 @@ use Rattle.core_machine.proofs.AddressLemmas.{lock_by_region, region_at}
 use Rattle.core_machine.proofs.StepLemmas.{list_of, added_to, map_next, opened_with}
 use Rattle.core_machine.proofs.LockActs.{ActKeeps}
 use Rattle.core_machine.proofs.LoadActs.{counts_from}
-use Rattle.core_machine.specs.Facts.{IsCounted, generation_word}
-use Rattle.delegate_ops.specs.InnerEntries.{entries_at, made_at}
-use Rattle.delegate_ops.specs.Script.{granule_of_task, entries_of}
-use Rattle.core_machine.specs.InnerAgentCaller.{is_inside, open_at, comes_before, SeesGeneration, SeesAt, is_due_at, is_around, coming_at, known_at}
-use Rattle.core_machine.specs.InnerCallers.{is_due, IsMade}
+use Rattle.delegate_ops.specs.Script.{entries_of}
 
 -- ---- what a holder sees after its raise
 

@@ -9,28 +9,16 @@ use Rattle.std.proofs.lemmas.List.{length-map}
 use Rattle.std.proofs.lemmas.List.Sums.{sum_by-cons}
 use Rattle.std.proofs.lemmas.List.Elements.{All-head, All-tail}
 use Rattle.std.proofs.lemmas.Option.{slice_get_cases, slice_get-map, slice_get_past, slice_get_within}
-use Rattle.gpt_descriptors.specs.declared.size.Size.{Size}
-use Rattle.gpt_descriptors.specs.Sizes.{granule_bytes, size_bytes}
-use Rattle.gpt_descriptors.specs.Places.{GeometryData, blocks_in_region, word_count}
-use Rattle.shared_words.specs.declared.act.Act.{Act}
-use Rattle.bit_locks.specs.Locks.{lock_number, lock_bit}
-use Rattle.scenario_text.specs.declared.scenario.Scenario.{Scenario}
-use Rattle.scenario_text.specs.declared.scenario.Script.{Script}
-use Rattle.scenario_text.specs.declared.scenario.Script.TheVariants as script
-use Rattle.history.specs.declared.call.Task.{Task}
-use Rattle.history.specs.declared.call.Answer.{Answer}
-use Rattle.history.specs.Calls.{task_at, answer_at}
-use Rattle.history.specs.Counts.{count_of}
+use Rattle.core_machine.proofs.Names.{Size, granule_bytes, size_bytes, GeometryData, blocks_in_region, word_count, Act, lock_number, lock_bit, Scenario, Script, Task, Answer, answer_at, count_of, AgentData, fresh, IsAgent, next_of, Caller, caller_next, caller_answers, holds, is_due, caller_tasks, IsMade, HoldsIn, InvariantFor, scene_of, caller_of, opening_of, played, IsCounted, generation_word, TraceEvent, history_of, first_map, geometry_of, task_of_ask, turns_in, Scene, is_inside, coming_at}
+use Rattle.core_machine.proofs.Names.script
+use Rattle.core_machine.proofs.Names.caller
+use Rattle.history.specs.Calls.{task_at}
 use Rattle.delegate_ops.specs.Deciding.{HasCause}
-use Rattle.delegate_ops.specs.InnerAgents.{AgentData, fresh, IsAgent, has_ended, next_of}
+use Rattle.delegate_ops.specs.InnerAgents.{has_ended}
 use Rattle.delegate_ops.specs.Script.{Follows}
 use Rattle.delegate_ops.proofs.ScriptLemmas.{some_mapped}
-use Rattle.core_machine.specs.declared.caller.Caller.{Caller}
-use Rattle.core_machine.specs.declared.caller.Caller.TheVariants as caller
-use Rattle.core_machine.specs.InnerCallers.{caller_next, caller_answers, holds, is_due, caller_tasks, IsMade, agent_tasks}
-use Rattle.core_machine.specs.InnerInvariant.{HoldsIn}
-use Rattle.core_machine.specs.InnerMachine.{InvariantFor, scene_of}
-use Rattle.core_machine.specs.InnerPlay.{caller_of, opening_of, played, outcome_of, played_trace}
+use Rattle.core_machine.specs.InnerCallers.{agent_tasks}
+use Rattle.core_machine.specs.InnerPlay.{outcome_of, played_trace}
 use Rattle.core_machine.proofs.ListLemmas.{some_or_none, one, get_front, count_none}
 use Rattle.core_machine.proofs.LockLemmas.{holder_bit}
 use Rattle.core_machine.proofs.CallerLemmas.{due_alone, placed_at, made_at_place}
@@ -43,12 +31,10 @@ use Rattle.delegate_ops.proofs.NextLemmas.{next_there}
 use Rattle.scenario_text.specs.declared.scenario.Look.{Look}
 use Rattle.core_machine.proofs.LegalLemmas.{HaveTasks, AreMade, made_legal, made_calls}
 use Rattle.core_machine.proofs.FitLemmas.{took_tasks}
-use Rattle.core_machine.specs.Facts.{IsCounted, generation_word, FitsHistory}
-use Rattle.core_machine.specs.Trace.{TraceEvent, events_of, FollowsScript, HasEnded, IsTrace, answers_by, history_of}
-use Rattle.core_machine.specs.Scenarios.{first_map, geometry_of, task_of_ask, tasks_of, turns_in, first_words}
+use Rattle.core_machine.specs.Facts.{FitsHistory}
+use Rattle.core_machine.specs.Trace.{events_of, FollowsScript, HasEnded, IsTrace, answers_by}
+use Rattle.core_machine.specs.Scenarios.{tasks_of, first_words}
 use Rattle.core_machine.specs.Run.{IsRun}
-use Rattle.core_machine.specs.InnerScene.{Scene}
-use Rattle.core_machine.specs.InnerAgentCaller.{is_inside, coming_at}
 
 -- ---- tasks
 

@@ -7,30 +7,16 @@ use Rattle.std.specs.Option.{option_map}
 use Rattle.std.proofs.lemmas.Option.{slice_get-map}
 use Rattle.std.proofs.lemmas.List.{get_or-set_other, map-set}
 use Rattle.std.proofs.lemmas.List.Elements.{All-set}
-use Rattle.gpi_values.specs.declared.gpi.Gpi.{Gpi}
-use Rattle.gpi_values.specs.declared.gpi.Gpi.TheVariants as gpi
-use Rattle.gpt_descriptors.specs.declared.size.Size.{Size}
-use Rattle.gpt_descriptors.specs.Sizes.{granule_bytes}
-use Rattle.gpt_descriptors.specs.Places.{GeometryData, WordName, blocks_in_region}
-use Rattle.gpt_descriptors.specs.Canonical.{canonical_word}
-use Rattle.bit_locks.specs.Locks.{lock_bit}
-use Rattle.table_meaning.specs.Equation.{Holder, Whole, apart_by}
+use Rattle.core_machine.proofs.Names.{Gpi, Size, granule_bytes, GeometryData, WordName, blocks_in_region, canonical_word, lock_bit, Holder, Whole, apart_by, Task, Answer, Entry, caller_in, call_in, granule_in, State, start, after_entry, state_after, is_by, region_of, count_of, Caller, holder_by, holds, open_by, Sees, is_due, known_answers, caller_tasks, IsMade, AreAllowed, HoldsIn, Scene, state_in, map_in, scene_after, map_at, IsCounted, generation_word, is_on_block}
+use Rattle.core_machine.proofs.Names.gpi
+use Rattle.core_machine.proofs.Names.entry
 use Rattle.table_meaning.proofs.EquationLemmas.{whole_turns, still_words}
-use Rattle.history.specs.declared.call.Task.{Task}
-use Rattle.history.specs.declared.call.Answer.{Answer}
-use Rattle.history.specs.declared.entry.Entry.{Entry}
-use Rattle.history.specs.declared.entry.Entry.TheVariants as entry
-use Rattle.history.specs.Entries.{caller_in, call_in, granule_in}
-use Rattle.history.specs.States.{State, start, after_entry, state_after}
 use Rattle.history.specs.Legality.{StateAllows}
-use Rattle.history.specs.Counts.{is_by, is_change, is_completion, region_of, count_of}
+use Rattle.history.specs.Counts.{is_change, is_completion}
 use Rattle.history.proofs.HistoryLemmas.{state_after-append}
-use Rattle.core_machine.specs.declared.caller.Caller.{Caller}
-use Rattle.core_machine.specs.InnerCallers.{own_of, call_of, holder_by, holds, open_by, Sees, is_due, known_answers, caller_tasks, IsMade}
-use Rattle.core_machine.specs.InnerInvariant.{AreTables, OpenAreHeld, IsAlone, AreAllowed, HoldsIn}
-use Rattle.core_machine.specs.InnerScene.{Scene, state_in, map_in, scene_after}
-use Rattle.core_machine.specs.Scenarios.{map_at}
-use Rattle.core_machine.specs.Facts.{IsCounted, AreUndisturbed, generation_word, is_on_block}
+use Rattle.core_machine.specs.InnerCallers.{own_of, call_of}
+use Rattle.core_machine.specs.InnerInvariant.{AreTables, OpenAreHeld, IsAlone}
+use Rattle.core_machine.specs.Facts.{AreUndisturbed}
 use Rattle.core_machine.proofs.ListLemmas.{one, count_set, each_set}
 use Rattle.core_machine.proofs.LockLemmas.{locks_keep}
 use Rattle.core_machine.proofs.AddressLemmas.{lock_of}

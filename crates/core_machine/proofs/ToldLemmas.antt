@@ -6,22 +6,13 @@ use Rattle.std.proofs.lemmas.Option.{slice_get_within}
 use Rattle.std.proofs.lemmas.Bool.{eq-eqb, ne_eqb}
 use Rattle.std.proofs.lemmas.List.{length-set}
 use Rattle.std.proofs.lemmas.List.Elements.{filter-append, All-append, All-nil, All-cons}
-use Rattle.gpi_values.specs.declared.gpi.Gpi.{Gpi}
-use Rattle.gpt_descriptors.specs.Places.{GeometryData}
-use Rattle.history.specs.declared.call.Task.{Task}
-use Rattle.history.specs.declared.call.Task.TheVariants as task
-use Rattle.history.specs.declared.call.Answer.{Answer}
-use Rattle.history.specs.declared.call.Answer.TheVariants as answer
-use Rattle.history.specs.declared.entry.Entry.{Entry}
-use Rattle.history.specs.Entries.{caller_in, call_in}
-use Rattle.history.specs.States.{State, start, after_entry, state_after}
-use Rattle.history.specs.Calls.{entries_by, call_entries, answered_entries}
-use Rattle.delegate_ops.specs.Deciding.{is_unusable, idle_answer}
-use Rattle.delegate_ops.specs.InnerAgents.{answered_first, idle_answers}
-use Rattle.core_machine.specs.declared.caller.Caller.{Caller}
+use Rattle.core_machine.proofs.Names.{Gpi, GeometryData, Task, Answer, Entry, caller_in, call_in, State, start, after_entry, state_after, entries_by, call_entries, answered_entries, idle_answer, idle_answers, Caller, AreAllowed, IsHistoryOf}
+use Rattle.core_machine.proofs.Names.task
+use Rattle.core_machine.proofs.Names.answer
+use Rattle.delegate_ops.specs.Deciding.{is_unusable}
+use Rattle.delegate_ops.specs.InnerAgents.{answered_first}
 use Rattle.core_machine.specs.InnerCallers.{own_of}
 use Rattle.core_machine.proofs.ListLemmas.{get_set}
-use Rattle.core_machine.specs.InnerInvariant.{AreAllowed, IsHistoryOf}
 
 -- ---- what an act may add: nothing, or one entry of the call under way
 

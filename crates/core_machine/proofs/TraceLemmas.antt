@@ -10,34 +10,24 @@ use Rattle.std.proofs.lemmas.Bool.{cases_Bool, cases_eq, cases_order, eq-eqb, ne
 use Rattle.std.proofs.lemmas.List.{map-append}
 use Rattle.std.proofs.lemmas.List.Elements.{filter-append, All-nil, All-cons, All-append}
 use Rattle.std.proofs.lemmas.List.Sums.{sum_by-append}
-use Rattle.gpt_descriptors.specs.Places.{GeometryData, place_of, WordName, IsWordName}
-use Rattle.shared_words.specs.declared.act.Act.{Act}
-use Rattle.shared_words.specs.declared.act.Act.TheVariants as act
-use Rattle.shared_words.specs.Acts.{answer_of, after_act, place_in}
-use Rattle.bit_locks.specs.Locks.{lock_bit, bit_with, take_act, release_act}
-use Rattle.scenario_text.specs.declared.scenario.Scenario.{Scenario}
-use Rattle.scenario_text.specs.declared.scenario.Script.{Script}
-use Rattle.scenario_text.specs.declared.scenario.Script.TheVariants as script
-use Rattle.delegate_ops.specs.InnerAgents.{AgentData, IsStage, fresh, took_of}
+use Rattle.core_machine.proofs.Names.{GeometryData, place_of, WordName, IsWordName, Act, answer_of, after_act, place_in, lock_bit, take_act, release_act, Scenario, Script, AgentData, IsStage, fresh, Caller, TraceEvent, CallEvent, HoldsIn, MachineData, InvariantFor, after_turn, after_turns, scene_of, trace_of, IsMade, caller_next, caller_took, holds, caller_of, opening_of, played, first_map, geometry_of, task_of_ask, turns_in, Scene, is_inside}
+use Rattle.core_machine.proofs.Names.act
+use Rattle.core_machine.proofs.Names.script
+use Rattle.core_machine.proofs.Names.caller
+use Rattle.bit_locks.specs.Locks.{bit_with}
+use Rattle.delegate_ops.specs.InnerAgents.{took_of}
 use Rattle.delegate_ops.proofs.ScriptLemmas.{fresh_walked, step_walks}
-use Rattle.core_machine.specs.declared.caller.Caller.{Caller}
-use Rattle.core_machine.specs.declared.caller.Caller.TheVariants as caller
 use Rattle.core_machine.proofs.ListLemmas.{one, count_cons, get_set, get_set_other}
 use Rattle.core_machine.proofs.LawLemmas.{agent_acting, one_act, is_plain, act_word}
 use Rattle.core_machine.proofs.MachineLemmas.{Along, Always, act_has, along}
 use Rattle.core_machine.proofs.LockLemmas.{holder_bit, take_free, take_held, release_held}
 use Rattle.core_machine.proofs.ActLemmas.{lock_of_task, low_of}
-use Rattle.core_machine.specs.Trace.{AreAnswered, TakesTurns, TraceEvent, events_of, words_after, releases, releases_by, takes, takes_by}
-use Rattle.delegate_ops.specs.Script.{CallEvent}
+use Rattle.core_machine.specs.Trace.{AreAnswered, TakesTurns, events_of, words_after, releases, releases_by, takes, takes_by}
 use Rattle.delegate_ops.specs.InnerScript.{HasWalked}
-use Rattle.core_machine.specs.InnerInvariant.{HoldsIn}
-use Rattle.core_machine.specs.InnerMachine.{MachineData, HasInvariant, InvariantFor, after_act_of, after_turn, after_turn_of, after_turns, event_of, scene_of, trace_of, turn_event_of}
-use Rattle.core_machine.specs.InnerCallers.{IsMade, caller_next, caller_took, made_by, holds}
-use Rattle.core_machine.specs.InnerPlay.{caller_of, opening_of, played, played_trace}
-use Rattle.core_machine.specs.Scenarios.{first_map, geometry_of, task_of_ask, turns_in}
+use Rattle.core_machine.specs.InnerMachine.{HasInvariant, after_act_of, after_turn_of, event_of, turn_event_of}
+use Rattle.core_machine.specs.InnerCallers.{made_by}
+use Rattle.core_machine.specs.InnerPlay.{played_trace}
 use Rattle.core_machine.proofs.WordLemmas.{is_lock, locks_left, writes_one}
-use Rattle.core_machine.specs.InnerScene.{Scene}
-use Rattle.core_machine.specs.InnerAgentCaller.{is_inside}
 use Rattle.core_machine.proofs.CallerLemmas.{agent_has, made_at_place}
 
 -- ---- each caller's events

@@ -4,15 +4,10 @@ use Rattle.std.proofs.Common.{◌≡◌, ◌≢◌, ℕ, ◌*◌, ◌/◌, ◌%�
 use Rattle.std.specs.Prelude.{slice_index}
 use Rattle.std.specs.Int.{bit_at}
 use Rattle.std.proofs.lemmas.List.{length-set, get_or-set_other}
-use Rattle.gpi_values.specs.declared.gpi.Gpi.{Gpi}
-use Rattle.gpt_descriptors.specs.declared.size.Size.{Size}
-use Rattle.gpt_descriptors.specs.Sizes.{size_bytes, space_bytes}
-use Rattle.gpt_descriptors.specs.Places.{GeometryData, IsGeometry, WordName, IsWordName, Lock, Generation, Duty, Level1, Line, place_of, gen_place_of, blocks_in_region}
+use Rattle.core_machine.proofs.Names.{Gpi, Size, size_bytes, space_bytes, GeometryData, IsGeometry, WordName, IsWordName, Lock, Generation, Level1, place_of, gen_place_of, blocks_in_region, lock_number, lock_bit, AreWords, generation_word}
+use Rattle.gpt_descriptors.specs.Places.{Duty, Line}
 use Rattle.gpt_descriptors.proofs.PlaceLemmas.{place_distinct, generation_named}
-use Rattle.bit_locks.specs.Locks.{lock_number, lock_bit}
-use Rattle.table_meaning.specs.Equation.{AreWords}
 use Rattle.core_machine.specs.InnerInvariant.{AreIdle}
-use Rattle.core_machine.specs.Facts.{generation_word}
 use Rattle.core_machine.proofs.AddressLemmas.{index_below, lock_by_region, lock_of}
 
 -- ---- the word that is written
