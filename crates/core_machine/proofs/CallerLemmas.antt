@@ -31,13 +31,7 @@ pub record IsPlaced (g : GeometryData) (x : Caller) : Type 0 where
 -- an agent outside is at its first stage
 outside_stage : (s : Stage) → is_inside s ≡ false → s ≡ stage.Locking
 outside_stage stage.Locking outside = refl
-outside_stage stage.Looking outside = absurd cc
-outside_stage (stage.Reading z k) outside = absurd cc
-outside_stage (stage.Splitting z d k) outside = absurd cc
-outside_stage (stage.Changing c k) outside = absurd cc
-outside_stage (stage.Raising c z k) outside = absurd cc
-outside_stage (stage.Merging f k) outside = absurd cc
-outside_stage (stage.Releasing given) outside = absurd cc
+outside_stage s outside = absurd cc
 
 -- inside a task it holds that task's lock
 pub agent_has : (a : AgentData) (t : Task) → task_of a ≡ Some t → is_inside a.stage ≡ true → agent_holds (lock_number a.geometry.setup (address_of t)) a ≡ true
