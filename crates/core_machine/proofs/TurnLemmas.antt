@@ -16,8 +16,7 @@ use Rattle.delegate_ops.specs.InnerStages as stage
 use Rattle.delegate_ops.proofs.NextLemmas.{next_there}
 use Rattle.core_machine.specs.declared.caller.Caller.{Caller}
 use Rattle.core_machine.specs.declared.caller.Caller.TheVariants as caller
-use Rattle.core_machine.specs.InnerCallers.{caller_next, caller_took, caller_waits, MayTake}
-use Rattle.core_machine.specs.InnerInvariant.{IsMade}
+use Rattle.core_machine.specs.InnerCallers.{caller_next, caller_took, caller_waits, MayTake, IsMade}
 use Rattle.core_machine.specs.InnerMachine.{MachineData, InvariantFor, HasInvariant, after_turn}
 use Rattle.core_machine.proofs.MachineLemmas.{may_act, acted, kept}
 use Rattle.core_machine.proofs.StillLemmas.{waits_still}
