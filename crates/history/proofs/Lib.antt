@@ -1,1 +1,3 @@
 pub mod HistoryLemmas
+pub mod StampLemmas
+pub mod ValueLemmas

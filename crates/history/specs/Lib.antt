@@ -4,3 +4,4 @@ pub mod Legality
 pub mod Calls
 pub mod Counts
 pub mod Events
+pub mod Stamps

@@ -1,0 +1,134 @@
+-- The stamps of accesses: between which changes of a region an access saw its granule.
+use Rattle.std.specs.Prelude.{◌≡◌, ℕ, ◌+◌, ◌/◌, ◌<◌, ◌≤◌, Bool, false, ◌&&◌, List, [], ◌∷◌, ◌++◌, ◌==◌, slice_get, Option, Some, if◌then◌else◌}
+use Rattle.gpi_values.specs.declared.gpi.Gpi.{Gpi}
+use Rattle.gpi_values.specs.declared.gpi.Space.{Space}
+use Rattle.gpt_descriptors.specs.declared.size.Size.{Size}
+use Rattle.gpt_descriptors.specs.declared.size.Reach.{Reach}
+use Rattle.gpt_descriptors.specs.Sizes.{tag_size_of}
+use Rattle.history.specs.declared.call.Task.{Task}
+use Rattle.history.specs.declared.call.Task.TheVariants as task
+use Rattle.history.specs.declared.call.Answer.{Answer}
+use Rattle.history.specs.declared.call.Answer.TheVariants as answer
+use Rattle.history.specs.declared.call.Access.{Access}
+use Rattle.history.specs.declared.call.Via.{Via}
+use Rattle.history.specs.declared.call.Via.TheVariants as via
+use Rattle.history.specs.declared.entry.Entry.{Entry}
+use Rattle.history.specs.declared.entry.Entry.TheVariants as entry
+use Rattle.history.specs.Entries.{granule_in}
+use Rattle.history.specs.States.{start, state_after}
+use Rattle.history.specs.Legality.{is_still}
+use Rattle.history.specs.Counts.{region_of, is_change, count_around}
+
+-- ---- the GPIs of a granule, by the changes of a region around it
+
+-- the GPI of a granule after a history from this map; none beyond the map
+abbrev pub gpi_after : List Gpi → List Entry → ℕ → Option Gpi
+gpi_after map h granule = slice_get (state_after (start map) h).map granule
+
+-- The change with this number gave a granule this GPI: so it was after some first entries of the
+-- history, and the count of the region of a size around it was the number then. Numbers go from
+-- `first`, which is before any change.
+pub record Gave (map : List Gpi) (first bytes granule : ℕ) (z : Size) (number : ℕ) (gpi : Gpi)
+    (h : List Entry) : Type 0 where
+  pub before : List Entry
+  pub after : List Entry
+  pub parts : h ≡ before ++ after
+  pub counted : count_around first bytes granule before z ≡ number
+  pub gives : gpi_after map before granule ≡ Some gpi
+
+-- An access with the stamps lo and hi saw a GPI that a change not before lo gave, and not after the
+-- one that follows hi: it may be made and its generation not raised yet.
+pub record SawBetween (map : List Gpi) (first bytes granule : ℕ) (z : Size) (lo hi : ℕ) (gpi : Gpi)
+    (h : List Entry) : Type 0 where
+  pub number : ℕ
+  pub low : lo ≤ number
+  pub high : number ≤ hi + 1
+  pub gave : Gave map first bytes granule z number gpi h
+
+-- the same, where the GPIs after 0, 1, 2 .. changes are listed
+pub record SawAmong (values : List Gpi) (first lo hi : ℕ) (gpi : Gpi) : Type 0 where
+  pub changes : ℕ
+  pub low : lo ≤ first + changes
+  pub high : first + changes ≤ hi + 1
+  pub gave : slice_get values changes ≡ Some gpi
+
+-- the entry changes a granule in the region of this size around a granule
+abbrev pub is_change_around : ℕ → Size → ℕ → Entry → Bool
+is_change_around bytes z granule e =
+    is_change e && (region_of bytes z (granule_in e) == region_of bytes z granule)
+
+-- the GPI of a granule after an entry, and before it
+abbrev pub value_after : ℕ → Gpi → Entry → Gpi
+value_after granule gpi (entry.Changed caller call other from to) =
+    if other == granule then to else gpi
+value_after granule gpi e = gpi
+
+-- the GPIs of a granule after 0, 1, 2 .. changes of the region of a size around it
+abbrev pub values_after : ℕ → Size → ℕ → Gpi → List Entry → List Gpi
+values_after bytes z granule gpi [] = gpi ∷ []
+values_after bytes z granule gpi (e ∷ h) =
+    (if is_change_around bytes z granule e then gpi ∷ [] else [])
+    ++ values_after bytes z granule (value_after granule gpi e) h
+
+-- ---- the stamps of an access
+
+-- The stamps of an access at a table: `lo` was loaded before it was decided and `hi` after it, both
+-- the generation of the region around its granule whose size tags a walk of this reach. The count
+-- of the region at the decision isn't before lo, nor after the one that follows hi.
+pub record AreStamps (map : List Gpi) (first bytes granule : ℕ) (gpi : Gpi) (reach : Reach)
+    (lo hi : ℕ) (before h : List Entry) : Type 0 where
+  pub least : first ≤ lo
+  pub order : lo ≤ hi
+  pub low : lo ≤ count_around first bytes granule before (tag_size_of reach)
+  pub high : count_around first bytes granule before (tag_size_of reach) ≤ hi + 1
+  pub most : hi ≤ count_around first bytes granule h (tag_size_of reach)
+  pub saw : SawBetween map first bytes granule (tag_size_of reach) lo hi gpi h
+
+-- a kept walk of this reach wasn't used: its tag was below the generation `at` of its region
+pub record WasOld (first bytes granule : ℕ) (reach : Reach) (tag at : ℕ) (before : List Entry)
+    : Type 0 where
+  pub newer : tag < at
+  pub most : at ≤ count_around first bytes granule before (tag_size_of reach)
+
+-- What the stamps of an access say, by how it found its GPI: a hit has one generation for both
+-- stamps, and without a hit the GPI is the map's.
+abbrev pub FitStamps : List Gpi → ℕ → ℕ → ℕ → Gpi → Via → List Entry → List Entry → Type 0
+FitStamps map first bytes granule gpi via.Still before h = ⊥
+FitStamps map first bytes granule gpi (via.Hit reach at) before h =
+    AreStamps map first bytes granule gpi reach at at before h
+FitStamps map first bytes granule gpi (via.Cold reach lo hi) before h =
+    AreStamps map first bytes granule gpi reach lo hi before h
+    × (gpi_after map before granule ≡ Some gpi)
+FitStamps map first bytes granule gpi (via.Missed reach tag at fresh lo hi) before h =
+    AreStamps map first bytes granule gpi fresh lo hi before h
+    × (gpi_after map before granule ≡ Some gpi)
+    × WasOld first bytes granule reach tag at before
+
+-- access k of caller c has its entry in the history, and its stamps fit there
+pub record IsStamped (map : List Gpi) (first bytes c k granule : ℕ) (space : Space)
+    (access : Access) (h : List Entry) : Type 0 where
+  pub before : List Entry
+  pub after : List Entry
+  pub parts : h ≡ before
+      ++ entry.Looked c k granule space access.gpi access.allowed ∷ after
+  pub stamps : FitStamps map first bytes granule access.gpi access.via before h
+
+-- the answer of a call has its stamps: of an access at a table, since no other answer has stamps
+abbrev pub IsStampedCall : List Gpi → ℕ → ℕ → ℕ → ℕ → Task → Answer → List Entry → Type 0
+IsStampedCall map first bytes c k (task.Look pa space) (answer.Seen access) h =
+    is_still access.via ≡ false → IsStamped map first bytes c k (pa / bytes) space access h
+IsStampedCall map first bytes c k t a h = Unit {0}
+
+-- the answers of one caller have their stamps
+abbrev pub AreStamped : List Gpi → ℕ → ℕ → ℕ → List Task → List Answer → List Entry → Type 0
+AreStamped map first bytes c tasks answers h =
+    (k : ℕ) (t : Task) (given : Answer) → slice_get tasks k ≡ Some t
+    → slice_get answers k ≡ Some given → IsStampedCall map first bytes c k t given h
+
+-- A history has the stamps of all accesses that are answered.
+abbrev pub HasStamps : List Gpi → ℕ → ℕ → List (List Task) → List (List Answer) → List Entry
+    → Type 0
+HasStamps map first bytes tasks answers h =
+    (c : ℕ) (own : List Task) (given : List Answer)
+    → slice_get tasks c ≡ Some own → slice_get answers c ≡ Some given
+    → AreStamped map first bytes c own given h
