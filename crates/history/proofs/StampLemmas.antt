@@ -1,6 +1,6 @@
 -- Stamps of accesses: what was seen between them, and what stays so as a history grows.
-use Rattle.std.proofs.Common.{◌≡◌, ◌≢◌, ◌⊎◌, ℕ, zero, suc, ◌+◌, ◌-◌, ◌<◌, ◌≤◌, ◌++◌, ◌∷◌, [], List, length, take, drop, get_or, set, min, Bool, true, false, cond, Some, refl, sym, ap, ◌∙◌, subst, arith, inl, inr, append-nil, append_assoc, length-take, length-drop}
-use Rattle.std.specs.Prelude.{slice_get, Contains}
+use Rattle.std.proofs.Common.{◌≡◌, ◌≢◌, ◌⊎◌, ℕ, zero, suc, ◌+◌, ◌-◌, ◌<◌, ◌≤◌, ◌++◌, ◌∷◌, [], List, length, take, drop, get_or, set, min, Bool, true, false, cond, Option, Some, None, refl, sym, ap, ◌∙◌, subst, arith, inl, inr, append-nil, append_assoc, length-take, length-drop}
+use Rattle.std.specs.Prelude.{slice_get, Contains, MatchOption}
 use Rattle.std.specs.List.{list_any, count_by}
 use Rattle.std.proofs.lemmas.Bool.{cases_Bool, eq-eqb}
 use Rattle.std.proofs.lemmas.List.{get_or-take, get_or-drop}
@@ -24,7 +24,8 @@ use Rattle.history.specs.Entries.{changes_granule}
 use Rattle.history.specs.States.{State, start, after_entry, state_after}
 use Rattle.history.specs.Legality.{is_still, is_seen}
 use Rattle.history.specs.Counts.{count_around}
-use Rattle.history.specs.Stamps.{gpi_after, Gave, SawBetween, SawAmong, is_change_around, AreStamps, FitStamps, IsStamped, IsStampedCall, AreStamped, HasStamps}
+use Rattle.history.specs.InnerStamps.{OldWalk, walked, IsDecided}
+use Rattle.history.specs.Stamps.{WasOld, gpi_after, Gave, SawBetween, SawAmong, is_change_around, AreStamps, FitStamps, IsStamped, IsStampedCall, AreStamped, HasStamps}
 use Rattle.history.proofs.HistoryLemmas.{state_after-append}
 
 -- ---- a part of a list
@@ -169,6 +170,12 @@ gave_within map first bytes granule z number gpi h gave =
     let counted = gave.counted in
     (omega arith, omega arith)
 
+-- the map's GPI is seen between stamps around the count
+pub saw_now : (map : List Gpi) (first bytes granule : ℕ) (z : Size) (lo hi : ℕ) (gpi : Gpi) (h : List Entry) → gpi_after map h granule ≡ Some gpi
+    → lo ≤ count_around first bytes granule h z → count_around first bytes granule h z ≤ hi + 1 → SawBetween map first bytes granule z lo hi gpi h
+saw_now map first bytes granule z lo hi gpi h gives low high =
+    record { number = count_around first bytes granule h z; low = low; high = high; gave = gave_now map first bytes granule z gpi h gives }
+
 pub saw_later : (map : List Gpi) (first bytes granule : ℕ) (z : Size) (lo hi : ℕ) (gpi : Gpi) (h made later : List Entry) → later ≡ h ++ made
     → SawBetween map first bytes granule z lo hi gpi h → SawBetween map first bytes granule z lo hi gpi later
 saw_later map first bytes granule z lo hi gpi h made later more saw = record {
@@ -230,6 +237,70 @@ stamped_later map first bytes c k granule space access h made later more stamped
   parts = later_parts h stamped.before (entry.Looked c k granule space access.gpi access.allowed ∷ stamped.after) made later stamped.parts more;
   stamps = fit_stamps_later map first bytes granule access.gpi access.via stamped.before h made later more stamped.stamps;
 }
+
+-- ---- from the deciding act to the second load
+
+pub decided_now : (map : List Gpi) (first bytes c k granule : ℕ) (space : Space) (gpi : Gpi) (allowed : Bool) (old : Option OldWalk) (reach : Reach) (lo : ℕ) (h later : List Entry) → later ≡ h ++ entry.Looked c k granule space gpi allowed ∷ []
+    → gpi_after map h granule ≡ Some gpi → first ≤ lo → lo ≤ count_around first bytes granule h (tag_size_of reach)
+    → MatchOption old (Unit {0}) (λ walk. WasOld first bytes granule walk.reach walk.tag walk.at h)
+    → IsDecided map first bytes c k granule space gpi allowed old reach lo later
+decided_now map first bytes c k granule space gpi allowed old reach lo h later more gives least low missed =
+    record { before = h; after = []; parts = more; gives = gives; least = least; low = low; missed = missed }
+
+pub decided_later : (map : List Gpi) (first bytes c k granule : ℕ) (space : Space) (gpi : Gpi) (allowed : Bool) (old : Option OldWalk) (reach : Reach) (lo : ℕ) (h made later : List Entry) → later ≡ h ++ made
+    → IsDecided map first bytes c k granule space gpi allowed old reach lo h → IsDecided map first bytes c k granule space gpi allowed old reach lo later
+decided_later map first bytes c k granule space gpi allowed old reach lo h made later more decided = record {
+  before = decided.before;
+  after = decided.after ++ made;
+  parts = later_parts h decided.before (entry.Looked c k granule space gpi allowed ∷ decided.after) made later decided.parts more;
+  gives = decided.gives;
+  least = decided.least;
+  low = decided.low;
+  missed = decided.missed;
+}
+
+walked_fits : (map : List Gpi) (first bytes granule : ℕ) (gpi : Gpi) (old : Option OldWalk) (reach : Reach) (lo hi : ℕ) (before h : List Entry) → AreStamps map first bytes granule gpi reach lo hi before h
+    → gpi_after map before granule ≡ Some gpi → MatchOption old (Unit {0}) (λ walk. WasOld first bytes granule walk.reach walk.tag walk.at before)
+    → FitStamps map first bytes granule gpi (walked old reach lo hi) before h
+walked_fits map first bytes granule gpi None reach lo hi before h stamps gives missed = (stamps, gives)
+walked_fits map first bytes granule gpi (Some walk) reach lo hi before h stamps gives missed = (stamps, gives, missed)
+
+-- at the second load the count of the region is its generation, or one more
+pub walk_stamped : (map : List Gpi) (first bytes c k granule : ℕ) (space : Space) (access : Access) (old : Option OldWalk) (reach : Reach) (lo hi : ℕ) (h : List Entry) → access.via ≡ walked old reach lo hi
+    → lo ≤ hi → hi ≤ count_around first bytes granule h (tag_size_of reach) → count_around first bytes granule h (tag_size_of reach) ≤ hi + 1
+    → IsDecided map first bytes c k granule space access.gpi access.allowed old reach lo h → IsStamped map first bytes c k granule space access h
+walk_stamped map first bytes c k granule space access old reach lo hi h is order most high decided =
+    let grows = count_grows first bytes granule (tag_size_of reach) decided.before (entry.Looked c k granule space access.gpi access.allowed ∷ decided.after) h decided.parts in
+    let stamps = are_stamps_now map first bytes granule access.gpi reach lo hi decided.before (entry.Looked c k granule space access.gpi access.allowed ∷ decided.after) h decided.parts decided.gives decided.least decided.low (omega arith) order most in
+    record {
+      before = decided.before;
+      after = decided.after;
+      parts = decided.parts;
+      stamps = subst (λ (v : Via). FitStamps map first bytes granule access.gpi v decided.before h) (sym is)
+          (walked_fits map first bytes granule access.gpi old reach lo hi decided.before h stamps decided.gives decided.missed);
+    }
+
+-- an access that a kept walk decides has both stamps at once
+pub hit_stamped : (map : List Gpi) (first bytes c k granule : ℕ) (space : Space) (access : Access) (reach : Reach) (at : ℕ) (h later : List Entry) → later ≡ h ++ entry.Looked c k granule space access.gpi access.allowed ∷ []
+    → access.via ≡ via.Hit reach at → first ≤ at → at ≤ count_around first bytes granule h (tag_size_of reach) → count_around first bytes granule h (tag_size_of reach) ≤ at + 1
+    → SawBetween map first bytes granule (tag_size_of reach) at at access.gpi h → IsStamped map first bytes c k granule space access later
+hit_stamped map first bytes c k granule space access reach at h later more is least low high saw =
+    let made : List Entry = entry.Looked c k granule space access.gpi access.allowed ∷ [] in
+    let grows = count_grows first bytes granule (tag_size_of reach) h made later more in
+    let stamps : AreStamps map first bytes granule access.gpi reach at at h later = record {
+      least = least;
+      order = omega arith;
+      low = low;
+      high = high;
+      most = omega arith;
+      saw = saw_later map first bytes granule (tag_size_of reach) at at access.gpi h made later more saw;
+    } in
+    record {
+      before = h;
+      after = [];
+      parts = more;
+      stamps = subst (λ (v : Via). FitStamps map first bytes granule access.gpi v h later) (sym is) stamps;
+    }
 
 -- ---- calls
 

@@ -5,3 +5,4 @@ pub mod Calls
 pub mod Counts
 pub mod Events
 pub mod Stamps
+pub mod InnerStamps
