@@ -1,5 +1,5 @@
 -- Stamps of accesses: what was seen between them, and what stays so as a history grows.
-use Rattle.std.proofs.Common.{◌≡◌, ◌≢◌, ◌⊎◌, ℕ, zero, suc, ◌+◌, ◌-◌, ◌<◌, ◌≤◌, ◌++◌, ◌∷◌, [], List, length, take, drop, get_or, set, min, Bool, true, false, cond, Option, Some, None, refl, sym, ap, ◌∙◌, subst, arith, inl, inr, append-nil, append_assoc, length-take, length-drop}
+use Rattle.std.proofs.Common.{◌≡◌, ℕ, ◌+◌, ◌-◌, ◌<◌, ◌≤◌, ◌++◌, ◌∷◌, [], List, length, take, drop, get_or, min, Bool, true, false, cond, Option, Some, None, refl, sym, ap, ◌∙◌, subst, arith, inl, inr, append-nil, append_assoc, length-take, length-drop}
 use Rattle.std.specs.Prelude.{slice_get, Contains, MatchOption}
 use Rattle.std.specs.List.{list_any, count_by}
 use Rattle.std.proofs.lemmas.Bool.{cases_Bool, eq-eqb}
@@ -25,8 +25,10 @@ use Rattle.history.specs.States.{State, start, after_entry, state_after}
 use Rattle.history.specs.Legality.{is_still, is_seen}
 use Rattle.history.specs.Counts.{count_around}
 use Rattle.history.specs.InnerStamps.{OldWalk, walked, IsDecided}
-use Rattle.history.specs.Stamps.{WasOld, gpi_after, Gave, SawBetween, SawAmong, is_change_around, AreStamps, FitStamps, IsStamped, IsStampedCall, AreStamped, HasStamps}
+use Rattle.history.specs.Values.{SawAmong, is_change_around}
+use Rattle.history.specs.Stamps.{WasOld, gpi_after, Gave, SawBetween, AreStamps, FitStamps, IsStamped, IsStampedCall, AreStamped, HasStamps}
 use Rattle.history.proofs.HistoryLemmas.{state_after-append}
+use Rattle.history.proofs.ListLemmas.{get_set_other, get_append}
 
 -- ---- a part of a list
 
@@ -69,18 +71,6 @@ saw_none values first lo hi start end gpi least from to empty saw =
     omega arith
 
 -- ---- the map as a history grows
-
-pub get_set_other : {X : Type 0} (xs : List X) (c d : ℕ) (x : X) → d ≢ c → slice_get (set xs c x) d ≡ slice_get xs d
-get_set_other [] c d x other = refl
-get_set_other (w ∷ xs) zero zero x other = absurd (other refl)
-get_set_other (w ∷ xs) zero (suc d) x other = refl
-get_set_other (w ∷ xs) (suc c) zero x other = refl
-get_set_other (w ∷ xs) (suc c) (suc d) x other = get_set_other xs c d x (λ same. other (ap suc same))
-
-pub get_set_same : {X : Type 0} (xs : List X) (c : ℕ) (x : X) → c < length xs → slice_get (set xs c x) c ≡ Some x
-get_set_same [] c x within = absurd (omega arith)
-get_set_same (w ∷ xs) zero x within = refl
-get_set_same (w ∷ xs) (suc c) x within = get_set_same xs c x (omega (arith, within))
 
 -- an entry that doesn't change a granule leaves its GPI
 pub entry_stays : (s : State) (granule : ℕ) (e : Entry) → changes_granule granule e ≡ false → slice_get (after_entry s e).map granule ≡ slice_get s.map granule
@@ -325,22 +315,13 @@ pub stamped_calls_later : (map : List Gpi) (first bytes c : ℕ) (tasks : List T
 stamped_calls_later map first bytes c tasks answers h made later more stamped =
     λ k t given asks says. stamped_call_later map first bytes c k t given h made later more (stamped k t given asks says)
 
-get_append : {X : Type 0} (xs ys : List X) (k : ℕ) (v : X) → slice_get (xs ++ ys) k ≡ Some v → (slice_get xs k ≡ Some v) ⊎ ((i : ℕ) × (k ≡ length xs + i) × (slice_get ys i ≡ Some v))
-get_append [] ys k v there = inr (k, omega arith, there)
-get_append (x ∷ xs) ys zero v there = inl there
-get_append (x ∷ xs) ys (suc k) v there =
-    elim (get_append xs ys k v there) [
-      | inl front ↦ inl front
-      | inr back ↦ inr (back.0, omega (arith, back.1), back.2)
-    ]
-
 -- answers that come have their stamps
 pub stamped_calls_more : (map : List Gpi) (first bytes c : ℕ) (tasks : List Task) (answers more : List Answer) (h : List Entry) → AreStamped map first bytes c tasks answers h
     → ((i : ℕ) (t : Task) (given : Answer) → slice_get tasks (length answers + i) ≡ Some t → slice_get more i ≡ Some given → IsStampedCall map first bytes c (length answers + i) t given h)
     → AreStamped map first bytes c tasks (answers ++ more) h
 stamped_calls_more map first bytes c tasks answers more h stamped come =
     λ k t given asks says. elim (get_append answers more k given says) [
-      | inl there ↦ stamped k t given asks there
+      | inl there ↦ stamped k t given asks there.1
       | inr last ↦
           subst (λ (n : ℕ). IsStampedCall map first bytes c n t given h) (sym last.1)
           (come last.0 t given (subst (λ (n : ℕ). slice_get tasks n ≡ Some t) last.1 asks) last.2)

@@ -11,8 +11,10 @@ use Rattle.history.specs.declared.entry.Entry.{Entry}
 use Rattle.history.specs.declared.entry.Entry.TheVariants as entry
 use Rattle.history.specs.States.{State, start, after_entry, state_after}
 use Rattle.history.specs.Counts.{region_of}
-use Rattle.history.specs.Stamps.{gpi_after, Gave, SawBetween, SawAmong, is_change_around, value_after, values_after}
-use Rattle.history.proofs.StampLemmas.{get_set_other, get_set_same, gave_within}
+use Rattle.history.specs.Values.{SawAmong, is_change_around, value_after, values_after}
+use Rattle.history.specs.Stamps.{gpi_after, Gave, SawBetween}
+use Rattle.history.proofs.ListLemmas.{get_set_same, get_set_other}
+use Rattle.history.proofs.StampLemmas.{gave_within}
 
 -- ---- one entry
 

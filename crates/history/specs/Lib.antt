@@ -4,5 +4,6 @@ pub mod Legality
 pub mod Calls
 pub mod Counts
 pub mod Events
+pub mod Values
 pub mod Stamps
 pub mod InnerStamps

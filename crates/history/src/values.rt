@@ -4,7 +4,8 @@ ghost use Rattle.gpt_descriptors.specs.declared.size.Size.{Size};
 ghost use Rattle.gpt_descriptors.specs.Sizes.{generation_last, small_granule};
 ghost use Rattle.history.specs.declared.entry.Entry.{Entry};
 ghost use Rattle.history.specs.Counts.{region_of};
-ghost use Rattle.history.specs.Stamps.{gpi_after, Gave, SawBetween, SawAmong, is_change_around, value_after, values_after};
+ghost use Rattle.history.specs.Values.{SawAmong, is_change_around, value_after, values_after};
+ghost use Rattle.history.specs.Stamps.{gpi_after, Gave, SawBetween};
 
 use crate::entry::Entry;
 use gpi_values::Gpi;

@@ -1,6 +1,6 @@
 use Rattle.std.proofs.Common.{◌≡◌, ◌++◌, drop}
 use Rattle.gpt_descriptors.specs.Sizes.{small_granule}
-use Rattle.history.specs.Stamps.{values_after}
+use Rattle.history.specs.Values.{values_after}
 use Rattle.history.proofs.values.values_after.Given as goal
 
 abbrev pub invariant-loop-entry : goal.invariant-loop-entry
