@@ -24,9 +24,9 @@ use Rattle.history.specs.Counts.{count_around}
 abbrev pub gpi_after : List Gpi → List Entry → ℕ → Option Gpi
 gpi_after map h granule = slice_get (state_after (start map) h).map granule
 
--- The change with this number gave a granule this GPI: so it was after some first entries of the
--- history, and the count of the region of a size around it was the number then. Numbers go from
--- `first`, which is before any change.
+-- The change with this number gave a granule this GPI: the granule has it after some first entries
+-- of the history, and the count of the region of this size around it is the number there. Numbers
+-- go from `first`, which is before any change.
 pub record Gave (map : List Gpi) (first bytes granule : ℕ) (z : Size) (number : ℕ) (gpi : Gpi)
     (h : List Entry) : Type 0 where
   pub before : List Entry
@@ -35,8 +35,8 @@ pub record Gave (map : List Gpi) (first bytes granule : ℕ) (z : Size) (number 
   pub counted : count_around first bytes granule before z ≡ number
   pub gives : gpi_after map before granule ≡ Some gpi
 
--- An access with the stamps lo and hi saw a GPI that a change not before lo gave, and not after the
--- one that follows hi: it may be made and its generation not raised yet.
+-- An access with the stamps lo and hi saw a GPI that a change from number lo to number hi + 1 gave:
+-- the last one may be made while its generation isn't raised yet.
 pub record SawBetween (map : List Gpi) (first bytes granule : ℕ) (z : Size) (lo hi : ℕ) (gpi : Gpi)
     (h : List Entry) : Type 0 where
   pub number : ℕ
@@ -46,9 +46,10 @@ pub record SawBetween (map : List Gpi) (first bytes granule : ℕ) (z : Size) (l
 
 -- ---- the stamps of an access
 
--- The stamps of an access at a table: `lo` was loaded before it was decided and `hi` after it, both
--- the generation of the region around its granule whose size tags a walk of this reach. The count
--- of the region at the decision isn't before lo, nor after the one that follows hi.
+-- The stamps of an access at a table are two values of one generation, that of the region around
+-- its granule whose size tags a walk of this reach: `lo` was loaded before the access was decided,
+-- and `hi` after it. They lie around the count of the region in the entries before its own, and hi
+-- isn't above the count of the whole history.
 pub record AreStamps (map : List Gpi) (first bytes granule : ℕ) (gpi : Gpi) (reach : Reach)
     (lo hi : ℕ) (before h : List Entry) : Type 0 where
   pub least : first ≤ lo
@@ -58,7 +59,8 @@ pub record AreStamps (map : List Gpi) (first bytes granule : ℕ) (gpi : Gpi) (r
   pub most : hi ≤ count_around first bytes granule h (tag_size_of reach)
   pub saw : SawBetween map first bytes granule (tag_size_of reach) lo hi gpi h
 
--- a kept walk of this reach wasn't used: its tag was below the generation `at` of its region
+-- a kept walk of this reach wasn't used: the generation of its region was loaded as `at`, above its
+-- tag
 pub record WasOld (first bytes granule : ℕ) (reach : Reach) (tag at : ℕ) (before : List Entry)
     : Type 0 where
   pub newer : tag < at

@@ -7,9 +7,9 @@ use Rattle.history.specs.declared.entry.Entry.TheVariants as entry
 use Rattle.history.specs.Entries.{granule_in}
 use Rattle.history.specs.Counts.{region_of, is_change}
 
--- An access with the stamps lo and hi saw a GPI that a change not before lo gave, and not after the
--- one that follows hi. The values are the GPIs of its granule after 0, 1, 2 .. changes of the
--- region, whose count is `first` before any change.
+-- An access with the stamps lo and hi saw a GPI that a change from number lo to number hi + 1 gave.
+-- The values are the GPIs of its granule after 0, 1, 2 .. changes of the region, which are numbered
+-- from `first`.
 pub record SawAmong (values : List Gpi) (first lo hi : ℕ) (gpi : Gpi) : Type 0 where
   pub changes : ℕ
   pub low : lo ≤ first + changes
