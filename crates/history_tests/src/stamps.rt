@@ -29,6 +29,17 @@ fn changed(granule: u64, from: Gpi, to: Gpi) -> Entry {
     }
 }
 
+fn looked(call: u32, gpi: Gpi, allowed: bool) -> Entry {
+    Entry::Looked {
+        caller: 1,
+        call,
+        granule: GRANULE,
+        space: Space::NonSecure,
+        gpi,
+        allowed,
+    }
+}
+
 #[test]
 fn saw_is_the_slow_one(rt: HostRuntime) -> Result<(), Fail> {
     let values = [
@@ -119,5 +130,28 @@ fn values_go_by_the_changes_of_the_region(rt: HostRuntime) -> Result<(), Fail> {
         values_after(rt.alloc(), before, GRANULE, Size::FiveTwelve, &entries)?.as_slice(),
         [before, before, realm, realm, realm, none].as_slice()
     );
+    Ok(())
+}
+
+#[test]
+fn three_accesses_around_a_delegate(rt: HostRuntime) -> Result<(), Fail> {
+    // The first access is cold with the stamps 0 and 0, the second a hit at 0 between the change
+    // and its raises, the third missed with 1 and 1 after them.
+    let entries = [
+        looked(0, Gpi::NonSecure, true),
+        changed(GRANULE, Gpi::NonSecure, Gpi::Realm),
+        looked(1, Gpi::NonSecure, true),
+        Entry::Settled {
+            caller: 0,
+            call: 0,
+            granule: GRANULE,
+        },
+        looked(2, Gpi::Realm, false),
+    ];
+    let values = values_after(rt.alloc(), Gpi::NonSecure, GRANULE, Size::Two, &entries)?;
+    assert!(rt; saw(&values, 0, 0, 0, Gpi::NonSecure));
+    assert!(rt; saw(&values, 0, 0, 0, Gpi::Realm));
+    assert!(rt; saw(&values, 0, 1, 1, Gpi::Realm));
+    assert!(rt; !saw(&values, 0, 1, 1, Gpi::NonSecure));
     Ok(())
 }
