@@ -14,7 +14,8 @@ pub use Rattle.delegate_ops.specs.Deciding.{address_of, generation_in, granule_p
 pub use Rattle.delegate_ops.specs.InnerAgents.{AgentData, HasActs, IsAgent, IsStage, fresh, goes_to, idle_answers, is_look, next_of, task_of, took_at}
 pub use Rattle.delegate_ops.specs.InnerEntries.{entries_at, made_at}
 pub use Rattle.delegate_ops.specs.InnerScript.{IsPrefix}
-pub use Rattle.delegate_ops.specs.Script.{CallEvent, granule_of_task, lock_bit_of}
+pub use Rattle.delegate_ops.specs.Script.{granule_of_task, lock_bit_of}
+pub use Rattle.history.specs.Events.{CallEvent}
 pub use Rattle.delegate_ops.specs.declared.stage.Change.{Change}
 pub use Rattle.delegate_ops.specs.declared.stage.Kept.{Kept}
 pub use Rattle.delegate_ops.specs.InnerStages.{Stage}

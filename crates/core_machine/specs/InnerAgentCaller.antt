@@ -21,7 +21,8 @@ use Rattle.delegate_ops.specs.InnerStages.{Stage}
 use Rattle.delegate_ops.specs.InnerStages as stage
 use Rattle.delegate_ops.specs.Deciding.{address_of, generation_in}
 use Rattle.delegate_ops.specs.Changing.{from_of, to_of}
-use Rattle.delegate_ops.specs.Script.{CallEvent, granule_of_task}
+use Rattle.delegate_ops.specs.Script.{granule_of_task}
+use Rattle.history.specs.Events.{CallEvent}
 use Rattle.delegate_ops.specs.InnerAgents.{AgentData, IsAgent, task_of, fresh}
 use Rattle.delegate_ops.specs.InnerEntries.{entries_at, made_at}
 use Rattle.delegate_ops.specs.InnerScript.{HasWalked}
