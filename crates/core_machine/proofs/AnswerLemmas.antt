@@ -38,7 +38,7 @@ use Rattle.core_machine.proofs.OthersLemmas.{granule_address}
 use Rattle.core_machine.proofs.ActLemmas.{on_number}
 use Rattle.core_machine.specs.InnerAlone.{IsAlone}
 use Rattle.core_machine.specs.Facts.{AreAlone, AreWorn, IsCounted, is_on_block}
-use Rattle.delegate_ops.specs.Script.{AreCallEvents, CallEvent, Decides, IsCall, change_entry, completion, entries_of, granule_of_task}
+use Rattle.delegate_ops.specs.Script.{AreCallEvents, Decides, IsCall, change_entry, completion, entries_of, granule_of_task}
 use Rattle.delegate_ops.specs.Deciding.{HasCause, address_of, generation_in, granule_place, idle_answer, is_decided, is_needed, refusal_of}
 use Rattle.delegate_ops.specs.InnerScript.{IsPrefix}
 use Rattle.core_machine.specs.InnerScene.{Scene, HoldsIn}
@@ -51,6 +51,7 @@ use Rattle.delegate_ops.specs.InnerEntries.{entries_at, entries_before}
 use Rattle.history.specs.Legality.{granule_of, needed}
 use Rattle.core_machine.specs.InnerLocks.{holds, is_inside}
 use Rattle.history.specs.Counts.{is_by, is_worn}
+use Rattle.history.specs.Events.{CallEvent}
 
 -- ---- causes
 

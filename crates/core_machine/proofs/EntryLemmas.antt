@@ -24,13 +24,14 @@ use Rattle.history.specs.Entries.{granule_in, caller_in, call_in}
 use Rattle.history.specs.Counts.{is_worn}
 use Rattle.history.specs.Legality.{granule_of, needed, is_transition, IsChange, CallAllows}
 use Rattle.history.specs.Calls.{call_entries}
+use Rattle.history.specs.Events.{CallEvent}
 use Rattle.delegate_ops.specs.declared.stage.Change.{Change}
 use Rattle.delegate_ops.specs.declared.stage.Change.TheVariants as change
 use Rattle.delegate_ops.specs.declared.stage.Stage.{Stage}
 use Rattle.delegate_ops.specs.declared.stage.Stage.TheVariants as stage
 use Rattle.delegate_ops.specs.Deciding.{address_of, idle_answer, granule_place, is_needed, refusal_of, generation_in}
 use Rattle.delegate_ops.specs.InnerAgents.{IsChangeOf, IsStage}
-use Rattle.delegate_ops.specs.Script.{CallEvent, Decides, IsCall, change_entry}
+use Rattle.delegate_ops.specs.Script.{Decides, IsCall, change_entry}
 use Rattle.delegate_ops.proofs.DecidingLemmas.{acts_inside}
 use Rattle.core_machine.proofs.ListLemmas.{all_one}
 use Rattle.core_machine.proofs.TableLemmas.{granule_within}

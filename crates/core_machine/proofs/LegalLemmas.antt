@@ -18,9 +18,10 @@ use Rattle.history.specs.States.{State, start, after_entry}
 use Rattle.history.specs.Legality.{granule_of, CallAllows}
 use Rattle.history.specs.Calls as calls
 use Rattle.history.specs.Calls.{entries_by, call_entries, answered_entries, IsUnderWay, task_at, answer_at, Fits, IsLegalHistory, HasCalls}
+use Rattle.history.specs.Events.{CallEvent}
 use Rattle.delegate_ops.specs.declared.stage.Stage.{Stage}
 use Rattle.delegate_ops.specs.InnerAgents.{AgentData, IsAgent, HasActs, IsStage, task_of}
-use Rattle.delegate_ops.specs.Script.{CallEvent, AreCallEvents}
+use Rattle.delegate_ops.specs.Script.{AreCallEvents}
 use Rattle.core_machine.specs.declared.caller.Caller.{Caller}
 use Rattle.core_machine.specs.declared.caller.Caller.TheVariants as caller
 use Rattle.core_machine.specs.InnerCallers.{caller_answers, own_of}

@@ -21,6 +21,7 @@ use Rattle.shared_words.specs.declared.act.Act.TheVariants as act
 use Rattle.shared_words.specs.Acts.{answer_of, after_act, place_in}
 use Rattle.bit_locks.specs.Locks.{lock_bit, bit_with, take_act, release_act}
 use Rattle.history.specs.declared.entry.Entry.{Entry}
+use Rattle.history.specs.Events.{CallEvent}
 use Rattle.scenario_text.specs.declared.scenario.Scenario.{Scenario}
 use Rattle.scenario_text.specs.declared.scenario.Script.{Script}
 use Rattle.scenario_text.specs.declared.scenario.Script.TheVariants as script
@@ -37,7 +38,6 @@ use Rattle.core_machine.proofs.LockLemmas.{holder_bit, take_free, take_held, rel
 use Rattle.core_machine.proofs.ActLemmas.{Acting, lock_of_task, low_of}
 use Rattle.delegate_ops.proofs.AgentLemmas.{at_stage}
 use Rattle.core_machine.specs.Trace.{AreAnswered, TakesTurns, TraceEvent, events_of, history_of, words_after, releases, releases_by, takes, takes_by}
-use Rattle.delegate_ops.specs.Script.{CallEvent}
 use Rattle.delegate_ops.specs.InnerScript.{HasWalked}
 use Rattle.core_machine.specs.InnerInvariant.{IsMade}
 use Rattle.core_machine.specs.InnerMachine.{MachineData, InvariantFor, after_act_of, after_turn, after_turn_of, after_turns, event_of, entries_in, act_entries_of, trace_of, turn_event_of, turn_entries, turn_entries_of}

@@ -6,8 +6,8 @@ use Rattle.gpt_descriptors.specs.Sizes.{space_granules}
 use Rattle.gpt_descriptors.specs.Places.{GeometryData, IsGeometry, Duty, Line, place_of, l1_words, word_count}
 use Rattle.history.specs.declared.entry.Entry.{Entry}
 use Rattle.history.specs.States.{start, state_after}
+use Rattle.history.specs.Events.{CallEvent}
 use Rattle.delegate_ops.specs.InnerAgents.{IsAgent}
-use Rattle.delegate_ops.specs.Script.{CallEvent}
 use Rattle.core_machine.specs.declared.caller.Caller.{Caller}
 use Rattle.core_machine.specs.declared.caller.Caller.TheVariants as caller
 use Rattle.core_machine.specs.InnerTables.{AreTables}

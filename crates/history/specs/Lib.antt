@@ -3,3 +3,4 @@ pub mod States
 pub mod Legality
 pub mod Calls
 pub mod Counts
+pub mod Events
