@@ -1,0 +1,3 @@
+pub mod CpuLemmas
+pub mod ScriptLemmas
+pub mod FollowLemmas

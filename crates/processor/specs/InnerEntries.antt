@@ -1,0 +1,33 @@
+-- The entries that a processor's call makes, by how far it has come.
+use Rattle.std.specs.Prelude.{ℕ, List, [], ◌∷◌, Option, Some, None}
+use Rattle.gpi_values.specs.declared.gpi.Space.{Space}
+use Rattle.gpt_descriptors.specs.Places.{GeometryData}
+use Rattle.history.specs.declared.call.Task.{Task}
+use Rattle.history.specs.declared.call.Task.TheVariants as task
+use Rattle.history.specs.declared.entry.Entry.{Entry}
+use Rattle.processor.specs.declared.progress.Progress.{Progress}
+use Rattle.processor.specs.declared.progress.Progress.TheVariants as progress
+use Rattle.processor.specs.declared.progress.Walk.{Walk}
+use Rattle.processor.specs.Accesses.{walk_of, looked_entry}
+
+-- the entry of an access that has found this walk, if it has
+abbrev pub walk_entries : GeometryData → ℕ → ℕ → ℕ → Space → Option Walk → List Entry
+walk_entries g c n pa space None = []
+walk_entries g c n pa space (Some w) = looked_entry g c n pa space w.gpi ∷ []
+
+-- the entries that the next act of a task makes, where it answers this word
+abbrev pub made_at : GeometryData → ℕ → ℕ → Progress → Option Task → ℕ → List Entry
+made_at g c n (progress.Walking k) (Some (task.Look pa space)) old =
+    walk_entries g c n pa space (walk_of g pa k old)
+made_at g c n s t old = []
+
+-- the walk of an access that has loaded its L1 word
+abbrev pub walk_at : Progress → Option Walk
+walk_at (progress.Closing w) = Some w
+walk_at (progress.Leaving w hi) = Some w
+walk_at s = None
+
+-- the entries that the call under way has made
+abbrev pub entries_at : GeometryData → ℕ → ℕ → Progress → Option Task → List Entry
+entries_at g c n s (Some (task.Look pa space)) = walk_entries g c n pa space (walk_at s)
+entries_at g c n s t = []
