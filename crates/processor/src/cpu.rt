@@ -1,4 +1,4 @@
-ghost use Rattle.std.specs.Prelude.{◌≡◌, ◌-◌, ◌≤◌, ◌<◌, ◌++◌, IfOk, IfSome, IsSome, is_some, not, length, drop, slice_get, vec_capacity};
+ghost use Rattle.std.specs.Prelude.{◌≡◌, ◌-◌, ◌≤◌, ◌<◌, ◌++◌, IfOk, IfSome, IsSome, is_some, IsTrue, not, length, drop, slice_get, vec_capacity};
 ghost use Rattle.std.specs.List.{All};
 ghost use Rattle.processor.specs.Accesses.{IsAccess, block_answer};
 ghost use Rattle.processor.specs.InnerCpus.{task_of, idle_answer, idle_answers, fresh, has_ended, next_of, after_answer, took_of, HasActs, IsReadable};
@@ -175,5 +175,15 @@ impl Cpu {
         ensures { result ≡ length self.now.tasks - length self.now.answers }
     {
         (self.tasks.len() - self.answers.len()) as u64
+    }
+}
+
+#[cfg(test)]
+impl Cpu {
+    /// Whether the next act may answer `old`: one that loads an L1 word answers a descriptor.
+    pub fn may_take(&self, old: u64) -> bool
+        ensures { IsTrue result → IsReadable self.now.progress old }
+    {
+        self.progress.may_take(old)
     }
 }

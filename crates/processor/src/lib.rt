@@ -6,6 +6,8 @@
 mod cpu;
 mod law;
 mod progress;
+#[cfg(test)]
+mod tests;
 
 pub use cpu::Cpu;
 pub use history::{Access, Answer, Task, Via};

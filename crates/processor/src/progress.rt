@@ -6,6 +6,8 @@ ghost use Rattle.processor.specs.InnerProgress.{act_at, after_at, answer_at};
 ghost use Rattle.processor.specs.InnerCpus.{IsReadable};
 
 use gpi_values::{Gpi, Space, permits};
+#[cfg(test)]
+use gpt_descriptors::decode_l1;
 use gpt_descriptors::{Generations, Geometry, Reach, Size, l1_field, tag_size, word_reach};
 use history::{Access, Answer, Via};
 use invalidate::{gen_load, off, on};
@@ -116,5 +118,15 @@ impl Progress {
             Progress::Leaving(walk, hi) => return Some(walk.answer(space, *hi)),
         }
         None
+    }
+}
+
+#[cfg(test)]
+impl Progress {
+    /// Whether the next act may answer `old`: one that loads an L1 word answers a descriptor.
+    pub fn may_take(&self, old: u64) -> bool
+        ensures { IsTrue result → IsReadable self.now old }
+    {
+        !matches!(self, Progress::Walking(_)) || decode_l1(old).is_some()
     }
 }
