@@ -1,5 +1,5 @@
 -- A processor that has come so far by some events follows its script by them.
-use Rattle.std.proofs.Common.{◌≡◌, ◌≢◌, ℕ, zero, suc, ◌+◌, ◌≤◌, ◌<◌, ◌++◌, ◌∷◌, [], List, true, Option, Some, None, length, append_assoc, length-append, refl, sym, ap, ◌∙◌, subst, arith}
+use Rattle.std.proofs.Common.{◌≡◌, ◌≢◌, ℕ, zero, suc, ◌≤◌, ◌<◌, ◌++◌, ◌∷◌, [], List, true, Option, Some, None, length, append_assoc, length-append, refl, sym, ap, subst, arith}
 use Rattle.std.specs.Prelude.{slice_get, MatchOption}
 use Rattle.gpi_values.specs.declared.gpi.Gpi.{Gpi}
 use Rattle.gpi_values.specs.declared.gpi.Gpi.TheVariants as gpi
@@ -7,10 +7,9 @@ use Rattle.gpi_values.specs.declared.gpi.Space.{Space}
 use Rattle.gpt_descriptors.specs.declared.size.Size.TheVariants as size
 use Rattle.gpt_descriptors.specs.declared.size.Generations.{Generations}
 use Rattle.gpt_descriptors.specs.declared.size.Reach.TheVariants as reach
-use Rattle.gpt_descriptors.specs.Sizes.{tag_size_of, with_generation}
+use Rattle.gpt_descriptors.specs.Sizes.{with_generation}
 use Rattle.gpt_descriptors.specs.Places.{GeometryData, IsGeometry, l1_place_of, block_gpi_of}
-use Rattle.invalidate.specs.Duty.{on_act, off_act}
-use Rattle.invalidate.specs.Generations.{gen_load_of}
+use Rattle.invalidate.specs.Duty.{off_act}
 use Rattle.history.specs.declared.call.Task.{Task}
 use Rattle.history.specs.declared.call.Task.TheVariants as task
 use Rattle.history.specs.declared.call.Answer.{Answer}
@@ -19,7 +18,7 @@ use Rattle.processor.specs.declared.progress.Progress.{Progress}
 use Rattle.processor.specs.declared.progress.Progress.TheVariants as progress
 use Rattle.processor.specs.declared.progress.Walk.{Walk}
 use Rattle.processor.specs.Accesses.{IsAccess, walk_answer}
-use Rattle.processor.specs.Script.{word_load, Walks, IsLook, IsCall, IsUnderWay, Follows}
+use Rattle.processor.specs.Script.{Walks, IsLook, IsCall, IsUnderWay, Follows}
 use Rattle.processor.specs.InnerProgress.{no_generations}
 use Rattle.processor.specs.InnerCpus.{CpuData, IsCpu, task_of, idle_answer, has_ended}
 use Rattle.processor.specs.InnerScript.{IsPartOf, IsPrefix, HasWalked}

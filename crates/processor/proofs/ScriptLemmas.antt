@@ -1,5 +1,5 @@
 -- Processors walk their script.
-use Rattle.std.proofs.Common.{◌≡◌, ℕ, suc, ◌+◌, ◌<◌, ◌++◌, ◌∷◌, [], List, Option, Some, None, length, drop, append_assoc, append-nil, length-append, refl, sym, ap, ◌∙◌, subst, arith}
+use Rattle.std.proofs.Common.{◌≡◌, ℕ, suc, ◌+◌, ◌++◌, ◌∷◌, [], List, Option, Some, None, length, drop, append_assoc, append-nil, length-append, refl, sym, ap, ◌∙◌, subst, arith}
 use Rattle.std.specs.Prelude.{slice_get, IsSome}
 use Rattle.std.specs.Option.{option_map}
 use Rattle.gpi_values.specs.declared.gpi.Gpi.{Gpi}
@@ -9,7 +9,7 @@ use Rattle.gpt_descriptors.specs.declared.size.Size.TheVariants as size
 use Rattle.gpt_descriptors.specs.declared.size.Reach.{Reach}
 use Rattle.gpt_descriptors.specs.declared.size.Generations.{Generations}
 use Rattle.gpt_descriptors.specs.declared.entry.L1Entry.{L1Entry}
-use Rattle.gpt_descriptors.specs.Sizes.{place_in_word, reach_with, with_generation, tag_size_of}
+use Rattle.gpt_descriptors.specs.Sizes.{place_in_word, reach_with, tag_size_of}
 use Rattle.gpt_descriptors.specs.Entries.{l1_entry, word_gpi, word_reach}
 use Rattle.gpt_descriptors.specs.Places.{GeometryData, l1_place_of, block_gpi_of}
 use Rattle.gpt_descriptors.proofs.FieldEntryLemmas.{descriptor_gpi}
@@ -25,13 +25,13 @@ use Rattle.history.specs.Events.{CallEvent, plain}
 use Rattle.processor.specs.declared.progress.Progress.{Progress}
 use Rattle.processor.specs.declared.progress.Progress.TheVariants as progress
 use Rattle.processor.specs.declared.progress.Walk.{Walk}
-use Rattle.processor.specs.Accesses.{IsAccess, block_answer, walk_with, walk_of, walk_answer}
-use Rattle.processor.specs.Script.{loads, word_load, Walks, IsLook, IsCall, AreCallEvents}
-use Rattle.processor.specs.InnerProgress.{act_at, after_at, after_word, no_generations}
+use Rattle.processor.specs.Accesses.{block_answer, walk_with, walk_of, walk_answer}
+use Rattle.processor.specs.Script.{word_load, Walks, IsLook, IsCall, AreCallEvents}
+use Rattle.processor.specs.InnerProgress.{act_at, after_at, no_generations}
 use Rattle.processor.specs.InnerCpus.{CpuData, IsCpu, IsReadable, task_of, idle_answer, answered_first, idle_answers, fresh, next_at, next_of, took_at, took_of}
-use Rattle.processor.specs.InnerEntries.{walk_entries, made_at}
-use Rattle.processor.specs.InnerScript.{loads_before, HasLoaded, HasFound, IsPartOf, IsPrefix, HasWalked}
-use Rattle.processor.proofs.CpuLemmas.{access_at, acts_at, look_unblocked, some_mapped}
+use Rattle.processor.specs.InnerEntries.{made_at}
+use Rattle.processor.specs.InnerScript.{IsPartOf, IsPrefix, HasWalked}
+use Rattle.processor.proofs.CpuLemmas.{acts_at, look_unblocked, some_mapped}
 
 -- ---- the answered calls
 

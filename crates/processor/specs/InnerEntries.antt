@@ -1,14 +1,17 @@
 -- The entries that a processor's call makes, by how far it has come.
-use Rattle.std.specs.Prelude.{ℕ, List, [], ◌∷◌, Option, Some, None}
+use Rattle.std.specs.Prelude.{ℕ, List, [], ◌∷◌, ◌++◌, length, Option, Some, None}
 use Rattle.gpi_values.specs.declared.gpi.Space.{Space}
+use Rattle.gpt_descriptors.specs.Sizes.{granule_bytes}
 use Rattle.gpt_descriptors.specs.Places.{GeometryData}
 use Rattle.history.specs.declared.call.Task.{Task}
 use Rattle.history.specs.declared.call.Task.TheVariants as task
 use Rattle.history.specs.declared.entry.Entry.{Entry}
+use Rattle.history.specs.Calls.{answered_entries}
 use Rattle.processor.specs.declared.progress.Progress.{Progress}
 use Rattle.processor.specs.declared.progress.Progress.TheVariants as progress
 use Rattle.processor.specs.declared.progress.Walk.{Walk}
 use Rattle.processor.specs.Accesses.{walk_of, looked_entry}
+use Rattle.processor.specs.InnerCpus.{CpuData, task_of}
 
 -- the entry of an access that has found this walk, if it has
 abbrev pub walk_entries : GeometryData → ℕ → ℕ → ℕ → Space → Option Walk → List Entry
@@ -31,3 +34,9 @@ walk_at s = None
 abbrev pub entries_at : GeometryData → ℕ → ℕ → Progress → Option Task → List Entry
 entries_at g c n s (Some (task.Look pa space)) = walk_entries g c n pa space (walk_at s)
 entries_at g c n s t = []
+
+-- all entries that a processor, caller c, has made
+abbrev pub own_entries : ℕ → CpuData → List Entry
+own_entries c q =
+    answered_entries (granule_bytes q.geometry.setup) c 0 q.tasks q.answers
+    ++ entries_at q.geometry c (length q.answers) q.progress (task_of q)

@@ -7,7 +7,7 @@ ghost use Rattle.history.specs.Events.{CallEvent};
 ghost use Rattle.gpt_descriptors.specs.Places.{GeometryData, WordName, IsWordName, Duty, place_of, word_count};
 ghost use Rattle.processor.specs.Script.{IsCall, IsUnderWay, Follows};
 ghost use Rattle.processor.specs.InnerCpus.{CpuData, IsCpu, IsReadable, fresh, task_of, has_ended, next_of, took_of};
-ghost use Rattle.processor.specs.InnerEntries.{made_at};
+ghost use Rattle.processor.specs.InnerEntries.{made_at, own_entries};
 ghost use Rattle.processor.specs.InnerScript.{HasWalked};
 
 /// The law of the script: processor `p` that is caller `c` follows its script from its beginning,
@@ -28,6 +28,16 @@ pub fn processors_follow_their_script()
         → Follows q.geometry q.number c q.tasks q.answers events }
     ensures ended { (q : CpuData) → IsCpu q → has_ended q ≡ true
         → length q.answers ≡ length q.tasks }
+{}
+
+/// The entries of a processor that is caller `c`: none at its beginning, and with each next act
+/// those that the act makes are added. Those of its answered accesses are the ones of its answers.
+pub fn processors_make_their_entries()
+    ensures start { (g : GeometryData) (p : ℕ) (tasks : List Task) (c : ℕ)
+        → own_entries c (fresh g p tasks) ≡ [] }
+    ensures step { (c : ℕ) (q : CpuData) (next : Act) (old : ℕ) → next_of q ≡ Some next
+        → own_entries c (took_of q old) ≡ own_entries c q
+        ++ made_at q.geometry c (length q.answers) q.progress (task_of q) old }
 {}
 
 /// An access makes at most seven acts, and less than seven before it is answered.

@@ -13,5 +13,6 @@ pub use cpu::Cpu;
 pub use history::{Access, Answer, Task, Via};
 pub use law::{
     accesses_make_seven_acts, processors_follow_their_script, processors_keep_to_their_words,
+    processors_make_their_entries,
 };
 pub use progress::{Progress, Walk};
