@@ -35,9 +35,9 @@ word_load g c n pa space place word gpi = record {
   made = looked_entry g c n pa space gpi ∷ [];
 }
 
--- Call n of caller c, processor p, is an access that walks an L1 table: it sets its duty word, loads
--- the three generations, the L1 word, and the generation of the word's reach again, and clears its
--- duty word.
+-- Call n of caller c, processor p, is an access that walks an L1 table: it sets its duty word,
+-- loads the three generations, the L1 word, and the generation of the word's reach again, and
+-- clears its duty word.
 pub record Walks (g : GeometryData) (p c n pa : ℕ) (space : Space) (given : Answer)
     (events : List CallEvent) : Type 0 where
   pub set : ℕ

@@ -1,6 +1,6 @@
 //! Accesses as acts: a processor goes through a list of accesses, one act on the shared words at a
-//! time. Each walks the granule protection tables (DDI 0487, granule protection checks) while agents
-//! may change them; nothing is kept from one access to the next.
+//! time. Each walks the granule protection tables (DDI 0487, granule protection checks) while
+//! agents may change them; nothing is kept from one access to the next.
 #![tactic(auto)]
 
 mod cpu;

@@ -9,8 +9,8 @@ use shared_words::Act;
 use std::alloc::Global;
 use std::test::Fail;
 
-/// An address with L1 word 0x2245 and field 3 of it, and with the generations 0x112 of 2 MB, 0x11 of
-/// 32 MB and 1 of 512 MB.
+/// An address with L1 word 0x2245 and field 3 of it, and with the generations 0x112 of 2 MB, 0x11
+/// of 32 MB and 1 of 512 MB.
 const INSIDE: u64 = 0x2245_3abc;
 
 /// The acts of an access of processor 1 of 2 at this address: its places come after 2 locks, 2048,
