@@ -13,8 +13,8 @@ use Rattle.shared_words.specs.Acts.{place_in}
 use Rattle.history.specs.declared.call.Task.{Task}
 use Rattle.history.specs.declared.call.Task.TheVariants as task
 use Rattle.history.specs.declared.call.Answer.{Answer}
-use Rattle.processor.specs.declared.progress.Progress.{Progress}
-use Rattle.processor.specs.declared.progress.Progress.TheVariants as progress
+use Rattle.processor.specs.InnerProgress.{Stage}
+use Rattle.processor.specs.InnerProgress as stage
 use Rattle.processor.specs.Accesses.{IsAccess, block_answer}
 use Rattle.processor.specs.InnerProgress.{act_at, after_at, answer_at}
 use Rattle.processor.specs.InnerCpus.{CpuData, IsCpu, IsAt, HasActs, task_of, idle_answer, answered_first, idle_answers, has_ended, next_at, next_of, after_answer, ends_or_goes, took_at, took_of}
@@ -46,7 +46,7 @@ get_drop (t ∷ tasks) (suc n) i = get_drop tasks n i ∙ ap (slice_get (t ∷ t
 
 -- ---- steps
 
-starts_at : (o : Option Task) → IsAt o progress.Starting
+starts_at : (o : Option Task) → IsAt o stage.Starting
 starts_at None = refl
 starts_at (Some t) = tt
 
@@ -62,10 +62,10 @@ answer_is_cpu q t answer is under_way =
       accesses = is.accesses;
       answered = omega (arith, count, within, idle_few q.geometry rest, length-drop (length q.answers + 1) q.tasks);
       acts = subst (HasActs q.geometry) (get_drop q.tasks (length q.answers + 1) (length (idle_answers q.geometry rest)) ∙ ap (slice_get q.tasks) (sym count)) (idle_then_acts q.geometry rest);
-      progress = starts_at (task_of (after_answer q answer));
+      stage = starts_at (task_of (after_answer q answer));
     }
 
-ends_is_cpu : (q : CpuData) (t : Task) (o : Option Answer) (s : Progress) → IsCpu q → task_of q ≡ Some t → IsCpu (ends_or_goes q o s)
+ends_is_cpu : (q : CpuData) (t : Task) (o : Option Answer) (s : Stage) → IsCpu q → task_of q ≡ Some t → IsCpu (ends_or_goes q o s)
 ends_is_cpu q t (Some answer) s is under_way = answer_is_cpu q t answer is under_way
 ends_is_cpu q t None s is under_way = record {
   geometry = is.geometry;
@@ -73,12 +73,12 @@ ends_is_cpu q t None s is under_way = record {
   accesses = is.accesses;
   answered = is.answered;
   acts = is.acts;
-  progress = subst (λ (o : Option Task). IsAt o s) (sym under_way) tt;
+  stage = subst (λ (o : Option Task). IsAt o s) (sym under_way) tt;
 }
 
 took_at_is_cpu : (q : CpuData) (o : Option Task) (old : ℕ) → task_of q ≡ o → IsCpu q → IsCpu (took_at q o old)
 took_at_is_cpu q None old under_way is = is
-took_at_is_cpu q (Some (task.Look pa space)) old under_way is = ends_is_cpu q _ (answer_at space q.progress) _ is under_way
+took_at_is_cpu q (Some (task.Look pa space)) old under_way is = ends_is_cpu q _ (answer_at space q.stage) _ is under_way
 took_at_is_cpu q (Some (task.Delegate pa source)) old under_way is = is
 took_at_is_cpu q (Some (task.Undelegate pa source)) old under_way is = is
 took_at_is_cpu q (Some task.Unknown) old under_way is = is
@@ -87,7 +87,7 @@ took_at_is_cpu q (Some task.Unknown) old under_way is = is
 pub took_is_cpu : (q : CpuData) (old : ℕ) → IsCpu q → IsCpu (took_of q old)
 took_is_cpu q old is = took_at_is_cpu q (task_of q) old refl is
 
-ends_keeps : (q : CpuData) (o : Option Answer) (s : Progress)
+ends_keeps : (q : CpuData) (o : Option Answer) (s : Stage)
     → ((ends_or_goes q o s).geometry ≡ q.geometry) × ((ends_or_goes q o s).number ≡ q.number) × ((ends_or_goes q o s).tasks ≡ q.tasks)
 ends_keeps q None s = (refl, refl, refl)
 ends_keeps q (Some answer) s = (refl, refl, refl)
@@ -95,7 +95,7 @@ ends_keeps q (Some answer) s = (refl, refl, refl)
 took_at_keeps : (q : CpuData) (o : Option Task) (old : ℕ)
     → ((took_at q o old).geometry ≡ q.geometry) × ((took_at q o old).number ≡ q.number) × ((took_at q o old).tasks ≡ q.tasks)
 took_at_keeps q None old = (refl, refl, refl)
-took_at_keeps q (Some (task.Look pa space)) old = ends_keeps q (answer_at space q.progress) (after_at q.geometry pa q.progress old)
+took_at_keeps q (Some (task.Look pa space)) old = ends_keeps q (answer_at space q.stage) (after_at q.geometry pa q.stage old)
 took_at_keeps q (Some (task.Delegate pa source)) old = (refl, refl, refl)
 took_at_keeps q (Some (task.Undelegate pa source)) old = (refl, refl, refl)
 took_at_keeps q (Some task.Unknown) old = (refl, refl, refl)
@@ -129,21 +129,28 @@ look_place g pa space is inside acts =
 
 -- ---- a next act is there
 
-act_there : (g : GeometryData) (p pa place : ℕ) (s : Progress) → l1_place_of g pa ≡ Some place → is_some (act_at g p pa s) ≡ true
-act_there g p pa place progress.Starting there = refl
-act_there g p pa place (progress.Loading z k) there = refl
-act_there g p pa place (progress.Walking k) there = rw there refl
-act_there g p pa place (progress.Closing w) there = refl
-act_there g p pa place (progress.Leaving w hi) there = refl
+act_there : (g : GeometryData) (p pa place : ℕ) (s : Stage) → l1_place_of g pa ≡ Some place → is_some (act_at g p pa s) ≡ true
+act_there g p pa place stage.Starting there = refl
+act_there g p pa place (stage.Loading z k) there = refl
+act_there g p pa place (stage.Walking k) there = rw there refl
+act_there g p pa place (stage.Closing w) there = refl
+act_there g p pa place (stage.Leaving w hi) there = refl
 
 next_at_there : (q : CpuData) (o : Option Task) → IsCpu q → task_of q ≡ o → is_some (next_at q o) ≡ is_some o
 next_at_there q None is under_way = refl
 next_at_there q (Some (task.Look pa space)) is under_way =
     let there = look_place q.geometry pa space is.geometry (access_at q (task.Look pa space) is under_way) (acts_at q (task.Look pa space) is under_way) in
-    act_there q.geometry q.number pa there.0 q.progress there.1
+    act_there q.geometry q.number pa there.0 q.stage there.1
 next_at_there q (Some (task.Delegate pa source)) is under_way = absurd (access_at q (task.Delegate pa source) is under_way)
 next_at_there q (Some (task.Undelegate pa source)) is under_way = absurd (access_at q (task.Undelegate pa source) is under_way)
 next_at_there q (Some task.Unknown) is under_way = absurd (access_at q task.Unknown is under_way)
+
+-- an access under way has a next act
+pub look_acts : (q : CpuData) (pa : ℕ) (space : Space) → IsCpu q → task_of q ≡ Some (task.Look pa space) → is_some (act_at q.geometry q.number pa q.stage) ≡ true
+look_acts q pa space is under_way = next_at_there q (Some (task.Look pa space)) is under_way
+
+pub look_made : (q : CpuData) (pa : ℕ) (space : Space) → IsCpu q → task_of q ≡ Some (task.Look pa space) → is_some (next_of q) ≡ true
+look_made q pa space is under_way = ap (λ (o : Option Task). is_some (next_at q o)) under_way ∙ look_acts q pa space is under_way
 
 not_not : {X : Type 0} (o : Option X) → is_some o ≡ not (not (is_some o))
 not_not None = refl
@@ -154,7 +161,7 @@ pub next_there : (q : CpuData) → IsCpu q → is_some (next_of q) ≡ not (has_
 next_there q is = next_at_there q (task_of q) is refl ∙ not_not (task_of q)
 
 -- it is that of the access under way
-pub look_next : (q : CpuData) (pa : ℕ) (space : Space) → task_of q ≡ Some (task.Look pa space) → next_of q ≡ act_at q.geometry q.number pa q.progress
+pub look_next : (q : CpuData) (pa : ℕ) (space : Space) → task_of q ≡ Some (task.Look pa space) → next_of q ≡ act_at q.geometry q.number pa q.stage
 look_next q pa space under_way = rw under_way refl
 
 -- ---- places
@@ -167,30 +174,30 @@ some_mapped f (Some x) y e = (x, refl, cc)
 abbrev IsOn : GeometryData → Act → WordName → Type 0
 IsOn g next n = IsWordName g n × (place_in next ≡ place_of g n)
 
-act_word : (g : GeometryData) (p pa : ℕ) (s : Progress) (next : Act) → IsGeometry g → p < g.cpus → pa < space_bytes g.setup → act_at g p pa s ≡ Some next → (n : WordName) × IsOn g next n
-act_word g p pa progress.Starting next is cpu inside e = (Duty p, (cpu, let same : place_of g (Duty p) ≡ place_in next = cc in sym same))
-act_word g p pa (progress.Loading z k) next is cpu inside e =
+act_word : (g : GeometryData) (p pa : ℕ) (s : Stage) (next : Act) → IsGeometry g → p < g.cpus → pa < space_bytes g.setup → act_at g p pa s ≡ Some next → (n : WordName) × IsOn g next n
+act_word g p pa stage.Starting next is cpu inside e = (Duty p, (cpu, let same : place_of g (Duty p) ≡ place_in next = cc in sym same))
+act_word g p pa (stage.Loading z k) next is cpu inside e =
     let same : act.Load (place_of g (Generation z (pa / size_bytes z))) ≡ next = cc in (Generation z (pa / size_bytes z), (generation_named g z pa inside, ap place_in (sym same)))
-act_word g p pa (progress.Walking k) next is cpu inside e =
+act_word g p pa (stage.Walking k) next is cpu inside e =
     let load = some_mapped act.Load (l1_place_of g pa) next e in
     let index = some_mapped (λ (i : ℕ). place_of g (Level1 i)) (l1_index_of g pa) load.0 load.1 in
     (Level1 index.0, (index_within g pa index.0 is index.1, ap place_in (sym load.2) ∙ sym index.2))
-act_word g p pa (progress.Closing w) next is cpu inside e =
+act_word g p pa (stage.Closing w) next is cpu inside e =
     let z = tag_size_of w.reach in
     let same : act.Load (place_of g (Generation z (pa / size_bytes z))) ≡ next = cc in (Generation z (pa / size_bytes z), (generation_named g z pa inside, ap place_in (sym same)))
-act_word g p pa (progress.Leaving w hi) next is cpu inside e = (Duty p, (cpu, let same : place_of g (Duty p) ≡ place_in next = cc in sym same))
+act_word g p pa (stage.Leaving w hi) next is cpu inside e = (Duty p, (cpu, let same : place_of g (Duty p) ≡ place_in next = cc in sym same))
 
-act_writes : (g : GeometryData) (p pa : ℕ) (s : Progress) (next : Act) → act_at g p pa s ≡ Some next → (next ≡ act.Load (place_in next)) ⊎ (place_in next ≡ place_of g (Duty p))
-act_writes g p pa progress.Starting next e = let same : place_of g (Duty p) ≡ place_in next = cc in inr (sym same)
-act_writes g p pa (progress.Loading z k) next e = let same : act.Load (gen_place_of g z pa) ≡ next = cc in rw (← same) (inl refl)
-act_writes g p pa (progress.Walking k) next e = let load = some_mapped act.Load (l1_place_of g pa) next e in rw (← load.2) (inl refl)
-act_writes g p pa (progress.Closing w) next e = let same : act.Load (gen_place_of g (tag_size_of w.reach) pa) ≡ next = cc in rw (← same) (inl refl)
-act_writes g p pa (progress.Leaving w hi) next e = let same : place_of g (Duty p) ≡ place_in next = cc in inr (sym same)
+act_writes : (g : GeometryData) (p pa : ℕ) (s : Stage) (next : Act) → act_at g p pa s ≡ Some next → (next ≡ act.Load (place_in next)) ⊎ (place_in next ≡ place_of g (Duty p))
+act_writes g p pa stage.Starting next e = let same : place_of g (Duty p) ≡ place_in next = cc in inr (sym same)
+act_writes g p pa (stage.Loading z k) next e = let same : act.Load (gen_place_of g z pa) ≡ next = cc in rw (← same) (inl refl)
+act_writes g p pa (stage.Walking k) next e = let load = some_mapped act.Load (l1_place_of g pa) next e in rw (← load.2) (inl refl)
+act_writes g p pa (stage.Closing w) next e = let same : act.Load (gen_place_of g (tag_size_of w.reach) pa) ≡ next = cc in rw (← same) (inl refl)
+act_writes g p pa (stage.Leaving w hi) next e = let same : place_of g (Duty p) ≡ place_in next = cc in inr (sym same)
 
 next_at_word : (q : CpuData) (o : Option Task) (next : Act) → IsCpu q → task_of q ≡ o → next_at q o ≡ Some next → (n : WordName) × IsOn q.geometry next n
 next_at_word q None next is under_way e = absurd cc
 next_at_word q (Some (task.Look pa space)) next is under_way e =
-    act_word q.geometry q.number pa q.progress next is.geometry is.number (access_at q (task.Look pa space) is under_way) e
+    act_word q.geometry q.number pa q.stage next is.geometry is.number (access_at q (task.Look pa space) is under_way) e
 next_at_word q (Some (task.Delegate pa source)) next is under_way e = absurd cc
 next_at_word q (Some (task.Undelegate pa source)) next is under_way e = absurd cc
 next_at_word q (Some task.Unknown) next is under_way e = absurd cc
@@ -205,7 +212,7 @@ next_below q next is e =
 
 next_at_writes : (q : CpuData) (o : Option Task) (next : Act) → next_at q o ≡ Some next → (next ≡ act.Load (place_in next)) ⊎ (place_in next ≡ place_of q.geometry (Duty q.number))
 next_at_writes q None next e = absurd cc
-next_at_writes q (Some (task.Look pa space)) next e = act_writes q.geometry q.number pa q.progress next e
+next_at_writes q (Some (task.Look pa space)) next e = act_writes q.geometry q.number pa q.stage next e
 next_at_writes q (Some (task.Delegate pa source)) next e = absurd cc
 next_at_writes q (Some (task.Undelegate pa source)) next e = absurd cc
 next_at_writes q (Some task.Unknown) next e = absurd cc

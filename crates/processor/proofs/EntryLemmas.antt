@@ -14,9 +14,9 @@ use Rattle.history.specs.declared.call.Task.TheVariants as task
 use Rattle.history.specs.declared.call.Answer.{Answer}
 use Rattle.history.specs.declared.entry.Entry.{Entry}
 use Rattle.history.specs.Calls.{call_entries, answered_entries}
-use Rattle.processor.specs.declared.progress.Progress.{Progress}
-use Rattle.processor.specs.declared.progress.Progress.TheVariants as progress
-use Rattle.processor.specs.declared.progress.Walk.{Walk}
+use Rattle.processor.specs.InnerProgress.{Stage}
+use Rattle.processor.specs.InnerProgress as stage
+use Rattle.processor.specs.declared.walk.Walk.{Walk}
 use Rattle.processor.specs.Accesses.{block_answer, walk_of, walk_answer, looked_entry}
 use Rattle.processor.specs.InnerProgress.{after_word}
 use Rattle.processor.specs.InnerCpus.{CpuData, task_of, idle_answer, answered_first, idle_answers, fresh, next_at, next_of, after_answer, took_at, took_of}
@@ -72,7 +72,7 @@ calls_and_one bytes c n (x ∷ tasks) (b ∷ answers) t a here =
 
 -- ---- the access under way
 
-starts_quiet : (g : GeometryData) (c n : ℕ) (o : Option Task) → entries_at g c n progress.Starting o ≡ []
+starts_quiet : (g : GeometryData) (c n : ℕ) (o : Option Task) → entries_at g c n stage.Starting o ≡ []
 starts_quiet g c n None = refl
 starts_quiet g c n (Some (task.Look pa space)) = refl
 starts_quiet g c n (Some (task.Delegate pa source)) = refl
@@ -81,7 +81,7 @@ starts_quiet g c n (Some task.Unknown) = refl
 
 pub fresh_quiet : (g : GeometryData) (p : ℕ) (tasks : List Task) (c : ℕ) → own_entries c (fresh g p tasks) ≡ []
 fresh_quiet g p tasks c =
-    ap (λ (es : List Entry). es ++ entries_at g c (length (idle_answers g tasks)) progress.Starting (task_of (fresh g p tasks))) (all_quiet g (granule_bytes g.setup) c 0 tasks)
+    ap (λ (es : List Entry). es ++ entries_at g c (length (idle_answers g tasks)) stage.Starting (task_of (fresh g p tasks))) (all_quiet g (granule_bytes g.setup) c 0 tasks)
     ∙ starts_quiet g c (length (idle_answers g tasks)) (task_of (fresh g p tasks))
 
 -- the access is answered: its entry stays
@@ -110,28 +110,28 @@ loaded_entry g c n pa space k (Some w) before = ap (λ (es : List Entry). es ++ 
 no_entry : (es : List Entry) → es ≡ es ++ []
 no_entry es = sym (append-nil es)
 
-look_entries : (c : ℕ) (q : CpuData) (pa : ℕ) (space : Space) (s : Progress) (old : ℕ) → task_of q ≡ Some (task.Look pa space) → q.progress ≡ s
+look_entries : (c : ℕ) (q : CpuData) (pa : ℕ) (space : Space) (s : Stage) (old : ℕ) → task_of q ≡ Some (task.Look pa space) → q.stage ≡ s
     → own_entries c (took_at q (Some (task.Look pa space)) old)
     ≡ (answered_entries (granule_bytes q.geometry.setup) c 0 q.tasks q.answers ++ entries_at q.geometry c (length q.answers) s (Some (task.Look pa space)))
     ++ made_at q.geometry c (length q.answers) s (Some (task.Look pa space)) old
-look_entries c q pa space progress.Starting old here is = rw (is, here) (no_entry _)
-look_entries c q pa space (progress.Loading size.Two k) old here is = rw (is, here) (no_entry _)
-look_entries c q pa space (progress.Loading size.ThirtyTwo k) old here is = rw (is, here) (no_entry _)
-look_entries c q pa space (progress.Loading size.FiveTwelve k) old here is = rw (is, here) (no_entry _)
-look_entries c q pa space (progress.Walking k) old here is = rw (is, here) (loaded_entry q.geometry c (length q.answers) pa space k (walk_of q.geometry pa k old) _)
-look_entries c q pa space (progress.Closing w) old here is = rw (is, here) (no_entry _)
-look_entries c q pa space (progress.Leaving w hi) old here is = rw is (answered_entry c q pa space w hi here)
+look_entries c q pa space stage.Starting old here is = rw (is, here) (no_entry _)
+look_entries c q pa space (stage.Loading size.Two k) old here is = rw (is, here) (no_entry _)
+look_entries c q pa space (stage.Loading size.ThirtyTwo k) old here is = rw (is, here) (no_entry _)
+look_entries c q pa space (stage.Loading size.FiveTwelve k) old here is = rw (is, here) (no_entry _)
+look_entries c q pa space (stage.Walking k) old here is = rw (is, here) (loaded_entry q.geometry c (length q.answers) pa space k (walk_of q.geometry pa k old) _)
+look_entries c q pa space (stage.Closing w) old here is = rw (is, here) (no_entry _)
+look_entries c q pa space (stage.Leaving w hi) old here is = rw is (answered_entry c q pa space w hi here)
 
 took_entries : (c : ℕ) (q : CpuData) (o : Option Task) (next : Act) (old : ℕ) → task_of q ≡ o → next_at q o ≡ Some next
     → own_entries c (took_at q o old)
-    ≡ (answered_entries (granule_bytes q.geometry.setup) c 0 q.tasks q.answers ++ entries_at q.geometry c (length q.answers) q.progress o)
-    ++ made_at q.geometry c (length q.answers) q.progress o old
+    ≡ (answered_entries (granule_bytes q.geometry.setup) c 0 q.tasks q.answers ++ entries_at q.geometry c (length q.answers) q.stage o)
+    ++ made_at q.geometry c (length q.answers) q.stage o old
 took_entries c q None next old here e = absurd cc
-took_entries c q (Some (task.Look pa space)) next old here e = look_entries c q pa space q.progress old here refl
+took_entries c q (Some (task.Look pa space)) next old here e = look_entries c q pa space q.stage old here refl
 took_entries c q (Some (task.Delegate pa source)) next old here e = absurd cc
 took_entries c q (Some (task.Undelegate pa source)) next old here e = absurd cc
 took_entries c q (Some task.Unknown) next old here e = absurd cc
 
 pub step_entries : (c : ℕ) (q : CpuData) (next : Act) (old : ℕ) → next_of q ≡ Some next
-    → own_entries c (took_of q old) ≡ own_entries c q ++ made_at q.geometry c (length q.answers) q.progress (task_of q) old
+    → own_entries c (took_of q old) ≡ own_entries c q ++ made_at q.geometry c (length q.answers) q.stage (task_of q) old
 step_entries c q next old e = took_entries c q (task_of q) next old refl e

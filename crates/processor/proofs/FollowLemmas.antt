@@ -14,9 +14,9 @@ use Rattle.history.specs.declared.call.Task.{Task}
 use Rattle.history.specs.declared.call.Task.TheVariants as task
 use Rattle.history.specs.declared.call.Answer.{Answer}
 use Rattle.history.specs.Events.{CallEvent, plain}
-use Rattle.processor.specs.declared.progress.Progress.{Progress}
-use Rattle.processor.specs.declared.progress.Progress.TheVariants as progress
-use Rattle.processor.specs.declared.progress.Walk.{Walk}
+use Rattle.processor.specs.InnerProgress.{Stage}
+use Rattle.processor.specs.InnerProgress as stage
+use Rattle.processor.specs.declared.walk.Walk.{Walk}
 use Rattle.processor.specs.Accesses.{IsAccess, walk_answer}
 use Rattle.processor.specs.Script.{Walks, IsLook, IsCall, IsUnderWay, Follows}
 use Rattle.processor.specs.InnerProgress.{no_generations}
@@ -44,7 +44,7 @@ one_more g p c n pa space events e goes = record {
   proper = not_none e goes.rest;
 }
 
-leaving_goes : (g : GeometryData) (p c n pa : ℕ) (space : Space) (w : Walk) (hi : ℕ) (events : List CallEvent) → IsPartOf g p c n pa space (progress.Leaving w hi) events → GoesOn g p c n pa space events
+leaving_goes : (g : GeometryData) (p c n pa : ℕ) (space : Space) (w : Walk) (hi : ℕ) (events : List CallEvent) → IsPartOf g p c n pa space (stage.Leaving w hi) events → GoesOn g p c n pa space events
 leaving_goes g p c n pa space w hi events part = record {
   rest = plain (off_act g p) 0 ∷ [];
   given = walk_answer space w hi;
@@ -52,45 +52,45 @@ leaving_goes g p c n pa space w hi events part = record {
   proper = not_none (plain (off_act g p) 0) [];
 }
 
-closing_goes : (g : GeometryData) (p c n pa : ℕ) (space : Space) (w : Walk) (events : List CallEvent) → IsPartOf g p c n pa space (progress.Closing w) events → GoesOn g p c n pa space events
+closing_goes : (g : GeometryData) (p c n pa : ℕ) (space : Space) (w : Walk) (events : List CallEvent) → IsPartOf g p c n pa space (stage.Closing w) events → GoesOn g p c n pa space events
 closing_goes g p c n pa space w events part =
     one_more g p c n pa space events _ (leaving_goes g p c n pa space w 0 _ (part_closed g p c n pa space w 0 events part))
 
 -- it may load the word of a contiguous block of no access
 walking_goes : (g : GeometryData) (p c n pa : ℕ) (space : Space) (k : Generations) (place : ℕ) (events : List CallEvent) → l1_place_of g pa ≡ Some place
-    → IsPartOf g p c n pa space (progress.Walking k) events → GoesOn g p c n pa space events
+    → IsPartOf g p c n pa space (stage.Walking k) events → GoesOn g p c n pa space events
 walking_goes g p c n pa space k place events there part =
     let w : Walk = record { reach = reach.Two; gpi = gpi.NoAccess; lo = k.two } in
     one_more g p c n pa space events _ (closing_goes g p c n pa space w _ (part_found g p c n pa space k w place 257 events part there refl))
 
 last_load_goes : (g : GeometryData) (p c n pa : ℕ) (space : Space) (k : Generations) (place : ℕ) (events : List CallEvent) → l1_place_of g pa ≡ Some place
-    → IsPartOf g p c n pa space (progress.Loading size.FiveTwelve k) events → GoesOn g p c n pa space events
+    → IsPartOf g p c n pa space (stage.Loading size.FiveTwelve k) events → GoesOn g p c n pa space events
 last_load_goes g p c n pa space k place events there part =
     one_more g p c n pa space events _ (walking_goes g p c n pa space (with_generation size.FiveTwelve 0 k) place _ there (part_loaded g p c n pa space size.FiveTwelve k 0 events part))
 
 second_load_goes : (g : GeometryData) (p c n pa : ℕ) (space : Space) (k : Generations) (place : ℕ) (events : List CallEvent) → l1_place_of g pa ≡ Some place
-    → IsPartOf g p c n pa space (progress.Loading size.ThirtyTwo k) events → GoesOn g p c n pa space events
+    → IsPartOf g p c n pa space (stage.Loading size.ThirtyTwo k) events → GoesOn g p c n pa space events
 second_load_goes g p c n pa space k place events there part =
     one_more g p c n pa space events _ (last_load_goes g p c n pa space (with_generation size.ThirtyTwo 0 k) place _ there (part_loaded g p c n pa space size.ThirtyTwo k 0 events part))
 
 first_load_goes : (g : GeometryData) (p c n pa : ℕ) (space : Space) (k : Generations) (place : ℕ) (events : List CallEvent) → l1_place_of g pa ≡ Some place
-    → IsPartOf g p c n pa space (progress.Loading size.Two k) events → GoesOn g p c n pa space events
+    → IsPartOf g p c n pa space (stage.Loading size.Two k) events → GoesOn g p c n pa space events
 first_load_goes g p c n pa space k place events there part =
     one_more g p c n pa space events _ (second_load_goes g p c n pa space (with_generation size.Two 0 k) place _ there (part_loaded g p c n pa space size.Two k 0 events part))
 
 -- however far it has come
-goes : (g : GeometryData) (p c n pa : ℕ) (space : Space) (s : Progress) (place : ℕ) (events : List CallEvent) → l1_place_of g pa ≡ Some place
+goes : (g : GeometryData) (p c n pa : ℕ) (space : Space) (s : Stage) (place : ℕ) (events : List CallEvent) → l1_place_of g pa ≡ Some place
     → IsPartOf g p c n pa space s events → GoesOn g p c n pa space events
-goes g p c n pa space progress.Starting place events there part =
+goes g p c n pa space stage.Starting place events there part =
     one_more g p c n pa space events _ (first_load_goes g p c n pa space no_generations place _ there (part_started g p c n pa space 0 events part))
-goes g p c n pa space (progress.Loading size.Two k) place events there part = first_load_goes g p c n pa space k place events there part
-goes g p c n pa space (progress.Loading size.ThirtyTwo k) place events there part = second_load_goes g p c n pa space k place events there part
-goes g p c n pa space (progress.Loading size.FiveTwelve k) place events there part = last_load_goes g p c n pa space k place events there part
-goes g p c n pa space (progress.Walking k) place events there part = walking_goes g p c n pa space k place events there part
-goes g p c n pa space (progress.Closing w) place events there part = closing_goes g p c n pa space w events part
-goes g p c n pa space (progress.Leaving w hi) place events there part = leaving_goes g p c n pa space w hi events part
+goes g p c n pa space (stage.Loading size.Two k) place events there part = first_load_goes g p c n pa space k place events there part
+goes g p c n pa space (stage.Loading size.ThirtyTwo k) place events there part = second_load_goes g p c n pa space k place events there part
+goes g p c n pa space (stage.Loading size.FiveTwelve k) place events there part = last_load_goes g p c n pa space k place events there part
+goes g p c n pa space (stage.Walking k) place events there part = walking_goes g p c n pa space k place events there part
+goes g p c n pa space (stage.Closing w) place events there part = closing_goes g p c n pa space w events part
+goes g p c n pa space (stage.Leaving w hi) place events there part = leaving_goes g p c n pa space w hi events part
 
-look_under_way : (g : GeometryData) (p c n pa : ℕ) (space : Space) (s : Progress) (events : List CallEvent) → IsGeometry g → IsAccess g (task.Look pa space)
+look_under_way : (g : GeometryData) (p c n pa : ℕ) (space : Space) (s : Stage) (events : List CallEvent) → IsGeometry g → IsAccess g (task.Look pa space)
     → idle_answer g (task.Look pa space) ≡ None → IsPartOf g p c n pa space s events → IsUnderWay g p c n (task.Look pa space) events
 look_under_way g p c n pa space s events is inside acts part =
     let place = look_place g pa space is inside acts in
@@ -102,11 +102,11 @@ look_under_way g p c n pa space s events is inside acts part =
       proper = on.proper;
     }
 
-last_under_way : (q : CpuData) (c : ℕ) (o : Option Task) (events : List CallEvent) → IsCpu q → task_of q ≡ o → IsPrefix q.geometry q.number c (length q.answers) q.progress o events
+last_under_way : (q : CpuData) (c : ℕ) (o : Option Task) (events : List CallEvent) → IsCpu q → task_of q ≡ o → IsPrefix q.geometry q.number c (length q.answers) q.stage o events
     → MatchOption o (events ≡ []) (λ t. IsUnderWay q.geometry q.number c (length q.answers) t events)
 last_under_way q c None events is here prefix = prefix
 last_under_way q c (Some (task.Look pa space)) events is here prefix =
-    look_under_way q.geometry q.number c (length q.answers) pa space q.progress events is.geometry (access_at q (task.Look pa space) is here) (acts_at q (task.Look pa space) is here) prefix
+    look_under_way q.geometry q.number c (length q.answers) pa space q.stage events is.geometry (access_at q (task.Look pa space) is here) (acts_at q (task.Look pa space) is here) prefix
 last_under_way q c (Some (task.Delegate pa source)) events is here prefix = absurd (access_at q (task.Delegate pa source) is here)
 last_under_way q c (Some (task.Undelegate pa source)) events is here prefix = absurd (access_at q (task.Undelegate pa source) is here)
 last_under_way q c (Some task.Unknown) events is here prefix = absurd (access_at q task.Unknown is here)

@@ -22,9 +22,9 @@ use Rattle.history.specs.declared.call.Task.{Task}
 use Rattle.history.specs.declared.call.Task.TheVariants as task
 use Rattle.history.specs.declared.call.Answer.{Answer}
 use Rattle.history.specs.Events.{CallEvent, plain}
-use Rattle.processor.specs.declared.progress.Progress.{Progress}
-use Rattle.processor.specs.declared.progress.Progress.TheVariants as progress
-use Rattle.processor.specs.declared.progress.Walk.{Walk}
+use Rattle.processor.specs.InnerProgress.{Stage}
+use Rattle.processor.specs.InnerProgress as stage
+use Rattle.processor.specs.declared.walk.Walk.{Walk}
 use Rattle.processor.specs.Accesses.{block_answer, walk_with, walk_of, walk_answer}
 use Rattle.processor.specs.Script.{word_load, Walks, IsLook, IsCall, AreCallEvents}
 use Rattle.processor.specs.InnerProgress.{act_at, after_at, no_generations}
@@ -87,7 +87,7 @@ calls_and_idle g p c n (t ∷ tasks) (a ∷ answers) calls are = (are.0, are.1, 
 -- ---- the access under way
 
 -- before its first act
-no_prefix : (g : GeometryData) (p c n : ℕ) (o : Option Task) → IsPrefix g p c n progress.Starting o []
+no_prefix : (g : GeometryData) (p c n : ℕ) (o : Option Task) → IsPrefix g p c n stage.Starting o []
 no_prefix g p c n None = refl
 no_prefix g p c n (Some (task.Look pa space)) = refl
 no_prefix g p c n (Some (task.Delegate pa source)) = refl
@@ -114,32 +114,32 @@ descriptor_walk g pa k word is =
     (descriptor_gpi word (place_in_word g.setup pa) is (mod_below _ 16 (omega arith)))
 
 -- the events with one more: each act but the last one
-pub part_started : (g : GeometryData) (p c n pa : ℕ) (space : Space) (old : ℕ) (events : List CallEvent) → IsPartOf g p c n pa space progress.Starting events
-    → IsPartOf g p c n pa space (progress.Loading size.Two no_generations) (events ++ plain (on_act g p) old ∷ [])
+pub part_started : (g : GeometryData) (p c n pa : ℕ) (space : Space) (old : ℕ) (events : List CallEvent) → IsPartOf g p c n pa space stage.Starting events
+    → IsPartOf g p c n pa space (stage.Loading size.Two no_generations) (events ++ plain (on_act g p) old ∷ [])
 part_started g p c n pa space old events part = record { set = old; parts = rw part refl }
 
 pub part_loaded : (g : GeometryData) (p c n pa : ℕ) (space : Space) (z : Size) (k : Generations) (old : ℕ) (events : List CallEvent)
-    → IsPartOf g p c n pa space (progress.Loading z k) events
-    → IsPartOf g p c n pa space (after_at g pa (progress.Loading z k) old) (events ++ plain (gen_load_of g z pa) old ∷ [])
+    → IsPartOf g p c n pa space (stage.Loading z k) events
+    → IsPartOf g p c n pa space (after_at g pa (stage.Loading z k) old) (events ++ plain (gen_load_of g z pa) old ∷ [])
 part_loaded g p c n pa space size.Two k old events part = record { set = part.set; parts = rw part.parts refl }
 part_loaded g p c n pa space size.ThirtyTwo k old events part = record { set = part.set; parts = rw part.parts refl }
 part_loaded g p c n pa space size.FiveTwelve k old events part = record { set = part.set; parts = rw part.parts refl }
 
 pub part_found : (g : GeometryData) (p c n pa : ℕ) (space : Space) (k : Generations) (w : Walk) (place old : ℕ) (events : List CallEvent)
-    → IsPartOf g p c n pa space (progress.Walking k) events → l1_place_of g pa ≡ Some place → walk_of g pa k old ≡ Some w
-    → IsPartOf g p c n pa space (progress.Closing w) (events ++ word_load g c n pa space place old w.gpi ∷ [])
+    → IsPartOf g p c n pa space (stage.Walking k) events → l1_place_of g pa ≡ Some place → walk_of g pa k old ≡ Some w
+    → IsPartOf g p c n pa space (stage.Closing w) (events ++ word_load g c n pa space place old w.gpi ∷ [])
 part_found g p c n pa space k w place old events part there found =
     record { set = part.set; generations = k; place = place; word = old; there = there; found = found; parts = rw part.parts refl }
 
 pub part_closed : (g : GeometryData) (p c n pa : ℕ) (space : Space) (w : Walk) (old : ℕ) (events : List CallEvent)
-    → IsPartOf g p c n pa space (progress.Closing w) events
-    → IsPartOf g p c n pa space (progress.Leaving w old) (events ++ plain (gen_load_of g (tag_size_of w.reach) pa) old ∷ [])
+    → IsPartOf g p c n pa space (stage.Closing w) events
+    → IsPartOf g p c n pa space (stage.Leaving w old) (events ++ plain (gen_load_of g (tag_size_of w.reach) pa) old ∷ [])
 part_closed g p c n pa space w old events part =
     record { set = part.set; generations = part.generations; place = part.place; word = part.word; there = part.there; found = part.found; parts = rw part.parts refl }
 
 -- the last act makes them whole
 pub part_left : (g : GeometryData) (p c n pa : ℕ) (space : Space) (w : Walk) (hi old : ℕ) (events : List CallEvent)
-    → IsPartOf g p c n pa space (progress.Leaving w hi) events → Walks g p c n pa space (walk_answer space w hi) (events ++ plain (off_act g p) old ∷ [])
+    → IsPartOf g p c n pa space (stage.Leaving w hi) events → Walks g p c n pa space (walk_answer space w hi) (events ++ plain (off_act g p) old ∷ [])
 part_left g p c n pa space w hi old events part = record {
   set = part.set;
   generations = part.generations;
@@ -157,11 +157,11 @@ part_left g p c n pa space w hi old events part = record {
 -- ---- a next act
 
 -- a processor with these fields
-abbrev cpu : GeometryData → ℕ → List Task → List Answer → Progress → CpuData
-cpu g p tasks answers s = record { geometry = g; number = p; tasks = tasks; answers = answers; progress = s }
+abbrev cpu : GeometryData → ℕ → List Task → List Answer → Stage → CpuData
+cpu g p tasks answers s = record { geometry = g; number = p; tasks = tasks; answers = answers; stage = s }
 
 -- the access under way has one event more
-goes_on : (g : GeometryData) (p c : ℕ) (tasks : List Task) (answers : List Answer) (s : Progress) (pa : ℕ) (space : Space) (calls last : List CallEvent) (e : CallEvent)
+goes_on : (g : GeometryData) (p c : ℕ) (tasks : List Task) (answers : List Answer) (s : Stage) (pa : ℕ) (space : Space) (calls last : List CallEvent) (e : CallEvent)
     → slice_get tasks (length answers) ≡ Some (task.Look pa space) → AreCallEvents g p c 0 tasks answers calls → IsPartOf g p c (length answers) pa space s (last ++ e ∷ [])
     → HasWalked c (cpu g p tasks answers s) ((calls ++ last) ++ e ∷ [])
 goes_on g p c tasks answers s pa space calls last e here are longer = record {
@@ -175,8 +175,8 @@ goes_on g p c tasks answers s pa space calls last e here are longer = record {
 -- the duty word is cleared, and the access is answered
 answered : (g : GeometryData) (p c : ℕ) (tasks : List Task) (answers : List Answer) (pa : ℕ) (space : Space) (w : Walk) (hi : ℕ) (calls last : List CallEvent) (old : ℕ)
     → slice_get tasks (length answers) ≡ Some (task.Look pa space) → block_gpi_of g pa ≡ None → AreCallEvents g p c 0 tasks answers calls
-    → IsPartOf g p c (length answers) pa space (progress.Leaving w hi) last
-    → HasWalked c (took_at (cpu g p tasks answers (progress.Leaving w hi)) (Some (task.Look pa space)) old) ((calls ++ last) ++ plain (off_act g p) old ∷ [])
+    → IsPartOf g p c (length answers) pa space (stage.Leaving w hi) last
+    → HasWalked c (took_at (cpu g p tasks answers (stage.Leaving w hi)) (Some (task.Look pa space)) old) ((calls ++ last) ++ plain (off_act g p) old ∷ [])
 answered g p c tasks answers pa space w hi calls last old here unblocked are part =
     let e : CallEvent = plain (off_act g p) old in
     let own : List CallEvent = last ++ e ∷ [] in
@@ -197,48 +197,48 @@ answered g p c tasks answers pa space w hi calls last old here unblocked are par
 
 -- the L1 word is loaded
 walked : (g : GeometryData) (p c : ℕ) (tasks : List Task) (answers : List Answer) (pa : ℕ) (space : Space) (k : Generations) (place : ℕ) (calls last : List CallEvent) (old : ℕ)
-    → slice_get tasks (length answers) ≡ Some (task.Look pa space) → AreCallEvents g p c 0 tasks answers calls → IsPartOf g p c (length answers) pa space (progress.Walking k) last
+    → slice_get tasks (length answers) ≡ Some (task.Look pa space) → AreCallEvents g p c 0 tasks answers calls → IsPartOf g p c (length answers) pa space (stage.Walking k) last
     → l1_place_of g pa ≡ Some place → IsSome (l1_entry old)
-    → HasWalked c (took_at (cpu g p tasks answers (progress.Walking k)) (Some (task.Look pa space)) old)
-    ((calls ++ last) ++ record { act = act.Load place; old = old; made = made_at g c (length answers) (progress.Walking k) (Some (task.Look pa space)) old } ∷ [])
+    → HasWalked c (took_at (cpu g p tasks answers (stage.Walking k)) (Some (task.Look pa space)) old)
+    ((calls ++ last) ++ record { act = act.Load place; old = old; made = made_at g c (length answers) (stage.Walking k) (Some (task.Look pa space)) old } ∷ [])
 walked g p c tasks answers pa space k place calls last old here are part there readable =
     let found = descriptor_walk g pa k old readable in
-    rw found.1 (goes_on g p c tasks answers (progress.Closing found.0) pa space calls last _ here are (part_found g p c (length answers) pa space k found.0 place old last part there found.1))
+    rw found.1 (goes_on g p c tasks answers (stage.Closing found.0) pa space calls last _ here are (part_found g p c (length answers) pa space k found.0 place old last part there found.1))
 
 -- any act of an access with acts, however far it has come
-walks : (g : GeometryData) (p c : ℕ) (tasks : List Task) (answers : List Answer) (s : Progress) (pa : ℕ) (space : Space) (calls last : List CallEvent) (next : Act) (old : ℕ)
+walks : (g : GeometryData) (p c : ℕ) (tasks : List Task) (answers : List Answer) (s : Stage) (pa : ℕ) (space : Space) (calls last : List CallEvent) (next : Act) (old : ℕ)
     → slice_get tasks (length answers) ≡ Some (task.Look pa space) → block_gpi_of g pa ≡ None → IsReadable s old → AreCallEvents g p c 0 tasks answers calls
     → IsPartOf g p c (length answers) pa space s last → act_at g p pa s ≡ Some next
     → HasWalked c (took_at (cpu g p tasks answers s) (Some (task.Look pa space)) old)
     ((calls ++ last) ++ record { act = next; old = old; made = made_at g c (length answers) s (Some (task.Look pa space)) old } ∷ [])
-walks g p c tasks answers progress.Starting pa space calls last next old here unblocked readable are part e =
+walks g p c tasks answers stage.Starting pa space calls last next old here unblocked readable are part e =
     let same : on_act g p ≡ next = cc in
     rw (← same) (goes_on g p c tasks answers _ pa space calls last _ here are (part_started g p c (length answers) pa space old last part))
-walks g p c tasks answers (progress.Loading z k) pa space calls last next old here unblocked readable are part e =
+walks g p c tasks answers (stage.Loading z k) pa space calls last next old here unblocked readable are part e =
     let same : gen_load_of g z pa ≡ next = cc in
     rw (← same) (goes_on g p c tasks answers _ pa space calls last _ here are (part_loaded g p c (length answers) pa space z k old last part))
-walks g p c tasks answers (progress.Walking k) pa space calls last next old here unblocked readable are part e =
+walks g p c tasks answers (stage.Walking k) pa space calls last next old here unblocked readable are part e =
     let load = some_mapped act.Load (l1_place_of g pa) next e in
     rw (← load.2) (walked g p c tasks answers pa space k load.0 calls last old here are part load.1 readable)
-walks g p c tasks answers (progress.Closing w) pa space calls last next old here unblocked readable are part e =
+walks g p c tasks answers (stage.Closing w) pa space calls last next old here unblocked readable are part e =
     let same : gen_load_of g (tag_size_of w.reach) pa ≡ next = cc in
     rw (← same) (goes_on g p c tasks answers _ pa space calls last _ here are (part_closed g p c (length answers) pa space w old last part))
-walks g p c tasks answers (progress.Leaving w hi) pa space calls last next old here unblocked readable are part e =
+walks g p c tasks answers (stage.Leaving w hi) pa space calls last next old here unblocked readable are part e =
     let same : off_act g p ≡ next = cc in
     rw (← same) (answered g p c tasks answers pa space w hi calls last old here unblocked are part)
 
-took_walks : (c : ℕ) (q : CpuData) (o : Option Task) (calls last : List CallEvent) (next : Act) (old : ℕ) → IsCpu q → task_of q ≡ o → IsReadable q.progress old
-    → AreCallEvents q.geometry q.number c 0 q.tasks q.answers calls → IsPrefix q.geometry q.number c (length q.answers) q.progress o last → next_at q o ≡ Some next
-    → HasWalked c (took_at q o old) ((calls ++ last) ++ record { act = next; old = old; made = made_at q.geometry c (length q.answers) q.progress o old } ∷ [])
+took_walks : (c : ℕ) (q : CpuData) (o : Option Task) (calls last : List CallEvent) (next : Act) (old : ℕ) → IsCpu q → task_of q ≡ o → IsReadable q.stage old
+    → AreCallEvents q.geometry q.number c 0 q.tasks q.answers calls → IsPrefix q.geometry q.number c (length q.answers) q.stage o last → next_at q o ≡ Some next
+    → HasWalked c (took_at q o old) ((calls ++ last) ++ record { act = next; old = old; made = made_at q.geometry c (length q.answers) q.stage o old } ∷ [])
 took_walks c q None calls last next old is here readable are prefix e = absurd cc
 took_walks c q (Some (task.Look pa space)) calls last next old is here readable are prefix e =
-    walks q.geometry q.number c q.tasks q.answers q.progress pa space calls last next old here (look_unblocked q.geometry pa space (acts_at q (task.Look pa space) is here)) readable are prefix e
+    walks q.geometry q.number c q.tasks q.answers q.stage pa space calls last next old here (look_unblocked q.geometry pa space (acts_at q (task.Look pa space) is here)) readable are prefix e
 took_walks c q (Some (task.Delegate pa source)) calls last next old is here readable are prefix e = absurd cc
 took_walks c q (Some (task.Undelegate pa source)) calls last next old is here readable are prefix e = absurd cc
 took_walks c q (Some task.Unknown) calls last next old is here readable are prefix e = absurd cc
 
-pub step_walks : (c : ℕ) (q : CpuData) (events : List CallEvent) (next : Act) (old : ℕ) → IsCpu q → HasWalked c q events → IsReadable q.progress old → next_of q ≡ Some next
-    → HasWalked c (took_of q old) (events ++ record { act = next; old = old; made = made_at q.geometry c (length q.answers) q.progress (task_of q) old } ∷ [])
+pub step_walks : (c : ℕ) (q : CpuData) (events : List CallEvent) (next : Act) (old : ℕ) → IsCpu q → HasWalked c q events → IsReadable q.stage old → next_of q ≡ Some next
+    → HasWalked c (took_of q old) (events ++ record { act = next; old = old; made = made_at q.geometry c (length q.answers) q.stage (task_of q) old } ∷ [])
 step_walks c q events next old is walked readable e =
-    subst (λ (es : List CallEvent). HasWalked c (took_of q old) (es ++ record { act = next; old = old; made = made_at q.geometry c (length q.answers) q.progress (task_of q) old } ∷ [])) (sym walked.parts)
+    subst (λ (es : List CallEvent). HasWalked c (took_of q old) (es ++ record { act = next; old = old; made = made_at q.geometry c (length q.answers) q.stage (task_of q) old } ∷ [])) (sym walked.parts)
     (took_walks c q (task_of q) walked.calls walked.last next old is refl readable walked.answered walked.under_way e)

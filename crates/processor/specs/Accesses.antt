@@ -16,7 +16,7 @@ use Rattle.history.specs.declared.call.Answer.TheVariants as answer
 use Rattle.history.specs.declared.call.Via.TheVariants as via
 use Rattle.history.specs.declared.entry.Entry.{Entry}
 use Rattle.history.specs.declared.entry.Entry.TheVariants as entry
-use Rattle.processor.specs.declared.progress.Walk.{Walk}
+use Rattle.processor.specs.declared.walk.Walk.{Walk}
 
 -- an access inside the protected space
 abbrev pub IsAccess : GeometryData → Task → Type 0

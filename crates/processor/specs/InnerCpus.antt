@@ -8,8 +8,8 @@ use Rattle.shared_words.specs.declared.act.Act.{Act}
 use Rattle.history.specs.declared.call.Task.{Task}
 use Rattle.history.specs.declared.call.Task.TheVariants as task
 use Rattle.history.specs.declared.call.Answer.{Answer}
-use Rattle.processor.specs.declared.progress.Progress.{Progress}
-use Rattle.processor.specs.declared.progress.Progress.TheVariants as progress
+use Rattle.processor.specs.InnerProgress.{Stage}
+use Rattle.processor.specs.InnerProgress as stage
 use Rattle.processor.specs.Accesses.{IsAccess, block_answer}
 use Rattle.processor.specs.InnerProgress.{act_at, after_at, answer_at}
 
@@ -18,7 +18,7 @@ pub record CpuData : Type 0 where
   pub number : ℕ
   pub tasks : List Task
   pub answers : List Answer
-  pub progress : Progress
+  pub stage : Stage
 
 -- ---- tasks
 
@@ -48,7 +48,7 @@ fresh g p tasks = record {
   number = p;
   tasks = tasks;
   answers = idle_answers g tasks;
-  progress = progress.Starting;
+  stage = stage.Starting;
 }
 
 -- ---- acts
@@ -59,7 +59,7 @@ has_ended q = not (is_some (task_of q))
 
 -- the next act at a task
 abbrev pub next_at : CpuData → Option Task → Option Act
-next_at q (Some (task.Look pa space)) = act_at q.geometry q.number pa q.progress
+next_at q (Some (task.Look pa space)) = act_at q.geometry q.number pa q.stage
 next_at q t = None
 
 -- the next act of a processor
@@ -76,27 +76,27 @@ after_answer q answer = record {
   tasks = q.tasks;
   answers =
       (q.answers ++ answer ∷ []) ++ idle_answers q.geometry (drop (length q.answers + 1) q.tasks);
-  progress = progress.Starting;
+  stage = stage.Starting;
 }
 
 -- the access under way goes on
-abbrev pub goes_to : CpuData → Progress → CpuData
+abbrev pub goes_to : CpuData → Stage → CpuData
 goes_to q s = record {
   geometry = q.geometry;
   number = q.number;
   tasks = q.tasks;
   answers = q.answers;
-  progress = s;
+  stage = s;
 }
 
 -- the processor after an act that ends its access with this answer, or after which it goes on so
-abbrev pub ends_or_goes : CpuData → Option Answer → Progress → CpuData
+abbrev pub ends_or_goes : CpuData → Option Answer → Stage → CpuData
 ends_or_goes q (Some answer) s = after_answer q answer
 ends_or_goes q None s = goes_to q s
 
 abbrev pub took_at : CpuData → Option Task → ℕ → CpuData
 took_at q (Some (task.Look pa space)) old =
-    ends_or_goes q (answer_at space q.progress) (after_at q.geometry pa q.progress old)
+    ends_or_goes q (answer_at space q.stage) (after_at q.geometry pa q.stage old)
 took_at q t old = q
 
 -- the processor after an act that answered this word
@@ -106,8 +106,8 @@ took_of q old = took_at q (task_of q) old
 -- ---- which processors there are
 
 -- a word that is loaded as an L1 word is a descriptor
-abbrev pub IsReadable : Progress → ℕ → Type 0
-IsReadable (progress.Walking k) old = IsTrue (is_some (l1_entry old))
+abbrev pub IsReadable : Stage → ℕ → Type 0
+IsReadable (stage.Walking k) old = IsTrue (is_some (l1_entry old))
 IsReadable s old = Unit {0}
 
 -- the task under way has acts
@@ -116,8 +116,8 @@ HasActs g None = Unit {0}
 HasActs g (Some t) = idle_answer g t ≡ None
 
 -- a processor without an access left is where it began
-abbrev pub IsAt : Option Task → Progress → Type 0
-IsAt None s = s ≡ progress.Starting
+abbrev pub IsAt : Option Task → Stage → Type 0
+IsAt None s = s ≡ stage.Starting
 IsAt (Some t) s = Unit {0}
 
 pub record IsCpu (q : CpuData) : Type 0 where
@@ -126,4 +126,4 @@ pub record IsCpu (q : CpuData) : Type 0 where
   pub accesses : All (IsAccess q.geometry) q.tasks
   pub answered : length q.answers ≤ length q.tasks
   pub acts : HasActs q.geometry (task_of q)
-  pub progress : IsAt (task_of q) q.progress
+  pub stage : IsAt (task_of q) q.stage

@@ -12,9 +12,9 @@ use Rattle.invalidate.specs.Generations.{gen_load_of}
 use Rattle.history.specs.declared.call.Task.{Task}
 use Rattle.history.specs.declared.call.Task.TheVariants as task
 use Rattle.history.specs.Events.{CallEvent, plain}
-use Rattle.processor.specs.declared.progress.Progress.{Progress}
-use Rattle.processor.specs.declared.progress.Progress.TheVariants as progress
-use Rattle.processor.specs.declared.progress.Walk.{Walk}
+use Rattle.processor.specs.InnerProgress.{Stage}
+use Rattle.processor.specs.InnerProgress as stage
+use Rattle.processor.specs.declared.walk.Walk.{Walk}
 use Rattle.processor.specs.Accesses.{walk_of}
 use Rattle.processor.specs.Script.{loads, word_load, AreCallEvents}
 use Rattle.processor.specs.InnerCpus.{CpuData, task_of}
@@ -44,17 +44,17 @@ pub record HasFound (g : GeometryData) (p c n pa : ℕ) (space : Space) (w : Wal
       ++ word_load g c n pa space place word w.gpi ∷ made
 
 -- the events of an access under way that has come so far
-abbrev pub IsPartOf : GeometryData → ℕ → ℕ → ℕ → ℕ → Space → Progress → List CallEvent → Type 0
-IsPartOf g p c n pa space progress.Starting events = events ≡ []
-IsPartOf g p c n pa space (progress.Loading z k) events =
+abbrev pub IsPartOf : GeometryData → ℕ → ℕ → ℕ → ℕ → Space → Stage → List CallEvent → Type 0
+IsPartOf g p c n pa space stage.Starting events = events ≡ []
+IsPartOf g p c n pa space (stage.Loading z k) events =
     HasLoaded g p (loads_before g pa z k) events
-IsPartOf g p c n pa space (progress.Walking k) events = HasLoaded g p (loads g pa k) events
-IsPartOf g p c n pa space (progress.Closing w) events = HasFound g p c n pa space w [] events
-IsPartOf g p c n pa space (progress.Leaving w hi) events =
+IsPartOf g p c n pa space (stage.Walking k) events = HasLoaded g p (loads g pa k) events
+IsPartOf g p c n pa space (stage.Closing w) events = HasFound g p c n pa space w [] events
+IsPartOf g p c n pa space (stage.Leaving w hi) events =
     HasFound g p c n pa space w (plain (gen_load_of g (tag_size_of w.reach) pa) hi ∷ []) events
 
 -- the events of the call under way
-abbrev pub IsPrefix : GeometryData → ℕ → ℕ → ℕ → Progress → Option Task → List CallEvent → Type 0
+abbrev pub IsPrefix : GeometryData → ℕ → ℕ → ℕ → Stage → Option Task → List CallEvent → Type 0
 IsPrefix g p c n s (Some (task.Look pa space)) events = IsPartOf g p c n pa space s events
 IsPrefix g p c n s t events = events ≡ []
 
@@ -64,4 +64,4 @@ pub record HasWalked (c : ℕ) (q : CpuData) (events : List CallEvent) : Type 0 
   pub last : List CallEvent
   pub parts : events ≡ calls ++ last
   pub answered : AreCallEvents q.geometry q.number c 0 q.tasks q.answers calls
-  pub under_way : IsPrefix q.geometry q.number c (length q.answers) q.progress (task_of q) last
+  pub under_way : IsPrefix q.geometry q.number c (length q.answers) q.stage (task_of q) last

@@ -16,7 +16,7 @@ use Rattle.history.specs.declared.call.Task.{Task}
 use Rattle.history.specs.declared.call.Task.TheVariants as task
 use Rattle.history.specs.declared.call.Answer.{Answer}
 use Rattle.history.specs.Events.{CallEvent, plain}
-use Rattle.processor.specs.declared.progress.Walk.{Walk}
+use Rattle.processor.specs.declared.walk.Walk.{Walk}
 use Rattle.processor.specs.Accesses.{block_answer, walk_of, walk_answer, looked_entry}
 
 -- ---- the acts of one access at an L1 table

@@ -1,5 +1,6 @@
 ghost use Rattle.std.specs.Prelude.{◌≡◌, ◌-◌, ◌≤◌, ◌<◌, ◌++◌, IfOk, IfSome, IsSome, is_some, IsTrue, not, length, drop, slice_get, vec_capacity};
 ghost use Rattle.std.specs.List.{All};
+ghost use Rattle.shared_words.specs.Next.{old_by, words_after, MayBeMade};
 ghost use Rattle.processor.specs.Accesses.{IsAccess, block_answer};
 ghost use Rattle.processor.specs.InnerCpus.{task_of, idle_answer, idle_answers, fresh, has_ended, next_of, after_answer, took_of, HasActs, IsReadable};
 
@@ -7,7 +8,7 @@ use crate::progress::Progress;
 use gpi_values::{Gpi, Space, permits};
 use gpt_descriptors::Geometry;
 use history::{Access, Answer, Task, Via};
-use shared_words::Act;
+use shared_words::{Act, Words};
 use std::alloc::{AllocError, Global};
 use std::marker::Model;
 
@@ -23,6 +24,7 @@ pub struct Cpu {
 
 impl Model for Cpu {
     ghost use Rattle.std.specs.Prelude.{◌≤◌, length, vec_capacity};
+    ghost use Rattle.processor.specs.InnerProgress.{stage_of};
     ghost use Rattle.processor.specs.InnerCpus.{CpuData, IsCpu};
 
     ghost Value = { CpuData };
@@ -32,7 +34,7 @@ impl Model for Cpu {
       number = q.number;
       tasks = q.tasks.items;
       answers = q.answers.items;
-      progress = q.progress;
+      stage = stage_of q.progress;
     } };
 
     ghost invariant = { λ q. IsCpu (record {
@@ -40,7 +42,7 @@ impl Model for Cpu {
       number = q.number;
       tasks = q.tasks.items;
       answers = q.answers.items;
-      progress = q.progress;
+      stage = stage_of q.progress;
     }) × (length q.tasks.items ≤ vec_capacity q.answers) };
 }
 
@@ -109,7 +111,7 @@ impl Cpu {
             number,
             tasks,
             answers,
-            progress: Progress::Starting,
+            progress: Progress::new(),
         })
     }
 
@@ -139,19 +141,42 @@ impl Cpu {
     {
         self.answers.push_reserved(answer);
         answer_idle(&self.geometry, &self.tasks, &mut self.answers);
-        self.progress = Progress::Starting;
+        self.progress.restart();
     }
 
     /// Takes note that the next act was made and answered `old`.
     pub fn took(&mut self, old: u64)
         requires next { IsSome (next_of self.old) }
-        requires readable { IsReadable self.old.progress old }
+        requires readable { IsReadable self.old.stage old }
         ensures { self.new ≡ took_of self.old old }
     {
         if let Some(Task::Look(pa, space)) = self.task() {
-            if let Some(answer) = self.progress.took(&self.geometry, pa, space, old) {
-                self.end(answer);
+            match self.progress.answer(space) {
+                Some(answer) => self.end(answer),
+                None => self.progress.took(&self.geometry, pa, old),
             }
+        }
+    }
+
+    /// The next act, made on the words, if there is one. Whether there was one.
+    pub fn turn<W: Words>(&mut self, words: &mut W) -> bool
+        requires place { MayBeMade (next_of self.old) (W.words words.old) }
+        requires readable { IsReadable self.old.stage
+            (old_by (next_of self.old) (W.words words.old)) }
+        ensures words { W.words words.new ≡ words_after (next_of self.old) (W.words words.old) }
+        ensures after { self.new
+            ≡ took_of self.old (old_by (next_of self.old) (W.words words.old)) }
+        ensures made { result ≡ is_some (next_of self.old) }
+    {
+        if let Some(Task::Look(pa, space)) = self.task() {
+            if self.progress.turn(&self.geometry, self.number, pa, words) {
+                if let Some(answer) = self.progress.answer(space) {
+                    self.end(answer);
+                }
+            }
+            true
+        } else {
+            false
         }
     }
 
@@ -182,7 +207,7 @@ impl Cpu {
 impl Cpu {
     /// Whether the next act may answer `old`: one that loads an L1 word answers a descriptor.
     pub fn may_take(&self, old: u64) -> bool
-        ensures { IsTrue result → IsReadable self.now.progress old }
+        ensures { IsTrue result → IsReadable self.now.stage old }
     {
         self.progress.may_take(old)
     }

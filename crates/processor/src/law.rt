@@ -17,11 +17,11 @@ pub fn processors_follow_their_script()
     ensures start { (g : GeometryData) (p : ℕ) (tasks : List Task) (c : ℕ)
         → HasWalked c (fresh g p tasks) [] }
     ensures step { (c : ℕ) (q : CpuData) (events : List CallEvent) (next : Act) (old : ℕ)
-        → IsCpu q → HasWalked c q events → IsReadable q.progress old → next_of q ≡ Some next
+        → IsCpu q → HasWalked c q events → IsReadable q.stage old → next_of q ≡ Some next
         → HasWalked c (took_of q old) (events ++ record {
           act = next;
           old = old;
-          made = made_at q.geometry c (length q.answers) q.progress (task_of q) old;
+          made = made_at q.geometry c (length q.answers) q.stage (task_of q) old;
         } ∷ []) }
     ensures follows { (c : ℕ) (q : CpuData) (events : List CallEvent)
         → IsCpu q → HasWalked c q events
@@ -37,7 +37,7 @@ pub fn processors_make_their_entries()
         → own_entries c (fresh g p tasks) ≡ [] }
     ensures step { (c : ℕ) (q : CpuData) (next : Act) (old : ℕ) → next_of q ≡ Some next
         → own_entries c (took_of q old) ≡ own_entries c q
-        ++ made_at q.geometry c (length q.answers) q.progress (task_of q) old }
+        ++ made_at q.geometry c (length q.answers) q.stage (task_of q) old }
 {}
 
 /// An access makes at most seven acts, and less than seven before it is answered.

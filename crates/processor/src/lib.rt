@@ -8,6 +8,7 @@ mod law;
 mod progress;
 #[cfg(test)]
 mod tests;
+mod walk;
 
 pub use cpu::Cpu;
 pub use history::{Access, Answer, Task, Via};
@@ -15,4 +16,5 @@ pub use law::{
     accesses_make_seven_acts, processors_follow_their_script, processors_keep_to_their_words,
     processors_make_their_entries,
 };
-pub use progress::{Progress, Walk};
+pub use progress::{Phase, Progress};
+pub use walk::Walk;

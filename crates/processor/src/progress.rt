@@ -1,123 +1,214 @@
-ghost use Rattle.std.specs.Prelude.{◌≡◌, ◌<◌, None, Some, IsTrue, is_some};
-ghost use Rattle.gpt_descriptors.specs.Sizes.{space_bytes};
+ghost use Rattle.std.specs.Prelude.{◌≡◌, ◌<◌, IsSome, IsTrue, is_some};
+ghost use Rattle.gpt_descriptors.specs.Sizes.{space_bytes, with_generation};
 ghost use Rattle.gpt_descriptors.specs.Entries.{l1_entry};
-ghost use Rattle.processor.specs.Accesses.{walk_of, walk_answer};
-ghost use Rattle.processor.specs.InnerProgress.{act_at, after_at, answer_at};
+ghost use Rattle.shared_words.specs.Next.{old_by, words_after, MayBeMade};
+ghost use Rattle.processor.specs.Accesses.{walk_of};
+ghost use Rattle.processor.specs.InnerProgress.{stage_of, no_generations, act_at, after_load, after_word, after_at, answer_at, is_last};
+ghost use Rattle.processor.specs.InnerProgress as stage;
 ghost use Rattle.processor.specs.InnerCpus.{IsReadable};
 
-use gpi_values::{Gpi, Space, permits};
+use crate::walk::Walk;
+use gpi_values::{Gpi, Space};
 #[cfg(test)]
 use gpt_descriptors::decode_l1;
-use gpt_descriptors::{Generations, Geometry, Reach, Size, l1_field, tag_size, word_reach};
-use history::{Access, Answer, Via};
+use gpt_descriptors::{Generations, Geometry, Reach, Size, tag_size};
+use history::Answer;
 use invalidate::{gen_load, off, on};
-use shared_words::Act;
+use shared_words::{Act, Words};
 
-/// What an access has found in the L1 word that it loaded: how far the word reaches, and the GPI of
-/// the granule; and the generation of that reach as it was loaded before the word.
+/// What the next act of an access does.
 #[derive(Clone, Copy, Debug, PartialEq, Eq)]
-pub struct Walk {
-    pub reach: Reach,
-    pub gpi: Gpi,
-    pub lo: u64,
+pub enum Phase {
+    /// It sets the duty word.
+    Starting,
+    /// It loads the generation of this size.
+    Loading(Size),
+    /// The generations are loaded. It loads the L1 word.
+    Walking,
+    /// The L1 word has decided. It loads the generation of the word's reach again.
+    Closing,
+    /// It clears the duty word, and the access is answered.
+    Leaving,
 }
+
+/// No generation is loaded yet.
+const NO_GENERATIONS: Generations = Generations {
+    two: 0,
+    thirty_two: 0,
+    five_twelve: 0,
+};
 
 /// How far the access under way has come, with what it keeps.
-#[derive(Clone, Copy, Debug, PartialEq, Eq)]
-pub enum Progress {
-    /// The next act sets the duty word.
-    Starting,
-    /// The next act loads the generation of this size. Those that aren't loaded yet are kept as 0.
-    Loading(Size, Generations),
-    /// The generations are loaded. The next act loads the L1 word.
-    Walking(Generations),
-    /// The L1 word has decided. The next act loads the generation of its reach again.
-    Closing(Walk),
-    /// That generation was this one. The next act clears the duty word, and the access is answered.
-    Leaving(Walk, u64),
-}
-
-impl Walk {
-    /// The walk of an address that loads this L1 word, after these generations.
-    fn new(geometry: &Geometry, pa: u64, generations: Generations, word: u64) -> Walk
-        requires descriptor { IsTrue (is_some (l1_entry word)) }
-        ensures { walk_of geometry.now pa generations word ≡ Some result }
-    {
-        let reach = word_reach(word);
-        Walk {
-            reach,
-            gpi: l1_field(word, geometry.place_in_word(pa)),
-            lo: generations.get(tag_size(reach)),
-        }
-    }
-
-    /// The answer of an access in a space that has found this walk, and after it this generation.
-    fn answer(&self, space: Space, hi: u64) -> Answer
-        ensures { result ≡ walk_answer space self.now hi }
-    {
-        Answer::Seen(Access {
-            allowed: permits(self.gpi, space),
-            gpi: self.gpi,
-            level: 1,
-            via: Via::Cold {
-                reach: self.reach,
-                lo: self.lo,
-                hi,
-            },
-        })
-    }
+#[derive(Debug, Drop)]
+pub struct Progress {
+    phase: Phase,
+    /// The generations that it has loaded before the L1 word; those that it hasn't are 0.
+    generations: Generations,
+    /// What it has found in the L1 word, or the access before it has.
+    walk: Walk,
+    /// The generation that it, or the access before it, has loaded after the L1 word.
+    hi: u64,
 }
 
 impl Progress {
+    /// Before the first act of an access.
+    pub fn new() -> Progress
+        ensures { stage_of result ≡ stage.Starting }
+    {
+        Progress {
+            phase: Phase::Starting,
+            generations: NO_GENERATIONS,
+            walk: Walk {
+                reach: Reach::Word,
+                gpi: Gpi::NoAccess,
+                lo: 0,
+            },
+            hi: 0,
+        }
+    }
+
+    /// Before the first act of the next access.
+    pub fn restart(&mut self)
+        ensures { stage_of self.new ≡ stage.Starting }
+    {
+        self.phase = Phase::Starting;
+    }
+
+    /// The answer with which the next act, the clearing of the duty word, ends the access.
+    pub fn answer(&self, space: Space) -> Option<Answer>
+        ensures { result ≡ answer_at space (stage_of self.now) }
+    {
+        match self.phase {
+            Phase::Leaving => Some(self.walk.answer(space, self.hi)),
+            _ => None,
+        }
+    }
+
     /// The next act of a processor at an access to a byte address.
     pub fn next(&self, geometry: &Geometry, cpu: u32, pa: u64) -> Option<Act>
         requires cpu { cpu < geometry.now.cpus }
         requires inside { pa < space_bytes geometry.now.setup }
-        ensures { result ≡ act_at geometry.now cpu pa self.now }
+        ensures { result ≡ act_at geometry.now cpu pa (stage_of self.now) }
     {
-        match self {
-            Progress::Starting => Some(on(geometry, cpu)),
-            Progress::Loading(size, _) => Some(gen_load(geometry, *size, pa)),
-            Progress::Walking(_) => match geometry.l1_place(pa) {
+        match self.phase {
+            Phase::Starting => Some(on(geometry, cpu)),
+            Phase::Loading(size) => Some(gen_load(geometry, size, pa)),
+            Phase::Walking => match geometry.l1_place(pa) {
                 Some(place) => Some(Act::Load(place)),
                 None => None,
             },
-            Progress::Closing(walk) => Some(gen_load(geometry, tag_size(walk.reach), pa)),
-            Progress::Leaving(_, _) => Some(off(geometry, cpu)),
+            Phase::Closing => Some(gen_load(geometry, tag_size(self.walk.reach), pa)),
+            Phase::Leaving => Some(off(geometry, cpu)),
         }
     }
 
-    /// Takes note that the next act was made and answered `old`. The answer is there exactly where
-    /// that act cleared the duty word: then the access has ended, and nothing is changed.
-    pub fn took(&mut self, geometry: &Geometry, pa: u64, space: Space, old: u64) -> Option<Answer>
-        requires readable { IsReadable self.old old }
-        ensures answer { result ≡ answer_at space self.old }
-        ensures after { self.new ≡ after_at geometry.now pa self.old old }
+    /// The duty word was set.
+    fn started(&mut self)
+        ensures { stage_of self.new ≡ stage.Loading Size.Two no_generations }
     {
-        match self {
-            Progress::Starting => {
-                let generations = Generations {
-                    two: 0,
-                    thirty_two: 0,
-                    five_twelve: 0,
-                };
-                *self = Progress::Loading(Size::Two, generations);
+        self.generations = NO_GENERATIONS;
+        self.phase = Phase::Loading(Size::Two);
+    }
+
+    /// The generation of this size was loaded.
+    fn loaded(&mut self, size: Size, value: u64)
+        ensures { stage_of self.new
+            ≡ after_load size (with_generation size value self.old.generations) }
+    {
+        match size {
+            Size::Two => {
+                self.generations.two = value;
+                self.phase = Phase::Loading(Size::ThirtyTwo);
             }
-            Progress::Loading(size, kept) => {
-                let kept = kept.with(*size, old);
-                *self = match size {
-                    Size::Two => Progress::Loading(Size::ThirtyTwo, kept),
-                    Size::ThirtyTwo => Progress::Loading(Size::FiveTwelve, kept),
-                    Size::FiveTwelve => Progress::Walking(kept),
-                };
+            Size::ThirtyTwo => {
+                self.generations.thirty_two = value;
+                self.phase = Phase::Loading(Size::FiveTwelve);
             }
-            Progress::Walking(kept) => {
-                *self = Progress::Closing(Walk::new(geometry, pa, *kept, old));
+            Size::FiveTwelve => {
+                self.generations.five_twelve = value;
+                self.phase = Phase::Walking;
             }
-            Progress::Closing(walk) => *self = Progress::Leaving(*walk, old),
-            Progress::Leaving(walk, hi) => return Some(walk.answer(space, *hi)),
         }
-        None
+    }
+
+    /// The L1 word of this address was loaded.
+    fn walked(&mut self, geometry: &Geometry, pa: u64, word: u64)
+        requires descriptor { IsTrue (is_some (l1_entry word)) }
+        ensures { stage_of self.new ≡ after_word self.old.generations
+            (walk_of geometry.now pa self.old.generations word) }
+    {
+        self.walk = Walk::new(geometry, pa, self.generations, word);
+        self.phase = Phase::Closing;
+    }
+
+    /// The generation of the word's reach was loaded again.
+    fn closed(&mut self, value: u64)
+        ensures { stage_of self.new ≡ stage.Leaving self.old.walk value }
+    {
+        self.hi = value;
+        self.phase = Phase::Leaving;
+    }
+
+    /// Takes note that the next act was made and answered `old`, where it isn't the last one.
+    pub fn took(&mut self, geometry: &Geometry, pa: u64, old: u64)
+        requires { IsReadable (stage_of self.old) old }
+        ensures { stage_of self.new ≡ after_at geometry.now pa (stage_of self.old) old }
+    {
+        match self.phase {
+            Phase::Starting => self.started(),
+            Phase::Loading(size) => self.loaded(size, old),
+            Phase::Walking => self.walked(geometry, pa, old),
+            Phase::Closing => self.closed(old),
+            Phase::Leaving => {}
+        }
+    }
+
+    /// The next act, made on the words. Whether it is the last one.
+    pub fn turn<W: Words>(
+        &mut self,
+        geometry: &Geometry,
+        cpu: u32,
+        pa: u64,
+        words: &mut W,
+    ) -> bool
+        requires cpu { cpu < geometry.now.cpus }
+        requires inside { pa < space_bytes geometry.now.setup }
+        requires next { IsSome (act_at geometry.now cpu pa (stage_of self.old)) }
+        requires place { MayBeMade (act_at geometry.now cpu pa (stage_of self.old))
+            (W.words words.old) }
+        requires readable { IsReadable (stage_of self.old)
+            (old_by (act_at geometry.now cpu pa (stage_of self.old)) (W.words words.old)) }
+        ensures words { W.words words.new
+            ≡ words_after (act_at geometry.now cpu pa (stage_of self.old)) (W.words words.old) }
+        ensures after { stage_of self.new ≡ after_at geometry.now pa (stage_of self.old)
+            (old_by (act_at geometry.now cpu pa (stage_of self.old)) (W.words words.old)) }
+        ensures last { result ≡ is_last (stage_of self.old) }
+    {
+        match self.phase {
+            Phase::Starting => {
+                words.apply(on(geometry, cpu));
+                self.started();
+            }
+            Phase::Loading(size) => {
+                let value = words.apply(gen_load(geometry, size, pa));
+                self.loaded(size, value);
+            }
+            Phase::Walking => {
+                if let Some(place) = geometry.l1_place(pa) {
+                    let word = words.apply(Act::Load(place));
+                    self.walked(geometry, pa, word);
+                }
+            }
+            Phase::Closing => {
+                let value = words.apply(gen_load(geometry, tag_size(self.walk.reach), pa));
+                self.closed(value);
+            }
+            Phase::Leaving => {
+                words.apply(off(geometry, cpu));
+                return true;
+            }
+        }
+        false
     }
 }
 
@@ -125,8 +216,8 @@ impl Progress {
 impl Progress {
     /// Whether the next act may answer `old`: one that loads an L1 word answers a descriptor.
     pub fn may_take(&self, old: u64) -> bool
-        ensures { IsTrue result → IsReadable self.now old }
+        ensures { IsTrue result → IsReadable (stage_of self.now) old }
     {
-        !matches!(self, Progress::Walking(_)) || decode_l1(old).is_some()
+        !matches!(self.phase, Phase::Walking) || decode_l1(old).is_some()
     }
 }
