@@ -211,4 +211,19 @@ impl Cpu {
     {
         self.progress.may_take(old)
     }
+
+    /// Whether the next act, if there is one, is made on one of these words and may answer what it
+    /// answers there.
+    pub fn may_turn(&self, words: &[u64]) -> bool
+        ensures place { IsTrue result → MayBeMade (next_of self.now) words.now }
+        ensures readable { IsTrue result
+            → IsReadable self.now.stage (old_by (next_of self.now) words.now) }
+    {
+        match self.next() {
+            Some(Act::Load(place)) => place < words.len() && self.may_take(words[place]),
+            Some(Act::Store(place, _)) => place < words.len() && self.may_take(0),
+            Some(_) => false,
+            None => self.may_take(0),
+        }
+    }
 }

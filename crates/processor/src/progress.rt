@@ -164,13 +164,7 @@ impl Progress {
     }
 
     /// The next act, made on the words. Whether it is the last one.
-    pub fn turn<W: Words>(
-        &mut self,
-        geometry: &Geometry,
-        cpu: u32,
-        pa: u64,
-        words: &mut W,
-    ) -> bool
+    pub fn turn<W: Words>(&mut self, geometry: &Geometry, cpu: u32, pa: u64, words: &mut W) -> bool
         requires cpu { cpu < geometry.now.cpus }
         requires inside { pa < space_bytes geometry.now.setup }
         requires next { IsSome (act_at geometry.now cpu pa (stage_of self.old)) }

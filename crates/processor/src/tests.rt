@@ -5,7 +5,7 @@ ghost use Rattle.processor.specs.Accesses.{IsAccess};
 use super::*;
 use gpi_values::{Gpi, Space};
 use gpt_descriptors::{Geometry, MaxBlock, Reach, Setup, l0_good};
-use shared_words::Act;
+use shared_words::{Act, PlainWords, Words};
 use std::alloc::Global;
 use std::test::Fail;
 
@@ -192,5 +192,69 @@ fn a_processor_without_accesses_has_ended(rt: HostRuntime) -> Result<(), Fail> {
     let cpu = cpu(rt.alloc(), Vec::new(rt.alloc()))?;
     assert_eq!(rt; cpu.next(), None);
     assert_eq!(rt; cpu.left(), 0);
+    Ok(())
+}
+
+/// The words before the first act, each L1 word this one.
+fn started(alloc: Global, word: u64) -> Result<PlainWords, Fail> {
+    let geometry = one_table()?;
+    let mut l1 = Vec::new(alloc);
+    l1.resize(
+        (geometry.l1_tables() * geometry.setup().table_words()) as usize,
+        word,
+    )?;
+    Ok(PlainWords::new(alloc, &geometry, l1.as_slice())?)
+}
+
+/// Gives the processor a turn, and reports whether it made an act.
+fn turn(cpu: &mut Cpu, words: &mut PlainWords) -> bool {
+    cpu.may_turn(words.words()) && cpu.turn(words)
+}
+
+/// Writes a word.
+fn set(words: &mut PlainWords, place: usize, value: u64) {
+    if place < words.words().len() {
+        words.apply(Act::Store(place, value));
+    }
+}
+
+#[test]
+fn turns_load_what_stands_there_then(rt: HostRuntime) -> Result<(), Fail> {
+    let mut words = started(rt.alloc(), 0x391)?;
+    let tasks = vec![in rt.alloc();
+        Task::Look(INSIDE, Space::NonSecure),
+        Task::Look(0x4000_0000, Space::Secure),
+        Task::Look(INSIDE, Space::Realm),
+    ]?;
+    let mut cpu = cpu(rt.alloc(), tasks)?;
+    for made in 0..7u64 {
+        assert_eq!(rt;
+            words.words().get(2187),
+            Some(&(made.min(1))),
+            "after {made}"
+        );
+        if made == 5 {
+            set(&mut words, 2179, 4);
+            set(&mut words, 10961, 0x3b1);
+        }
+        assert!(rt; turn(&mut cpu, &mut words), "turn {made}");
+    }
+    assert_eq!(rt; words.words().get(2187), Some(&0));
+    assert_eq!(rt; cpu.left(), 1);
+    for made in 0..7u64 {
+        assert!(rt; turn(&mut cpu, &mut words), "turn {made}");
+    }
+    assert!(rt; !turn(&mut cpu, &mut words));
+    let cold = |lo: u64| Via::Cold {
+        reach: Reach::FiveTwelve,
+        lo,
+        hi: 4,
+    };
+    let want = [
+        seen(true, Gpi::NonSecure, 1, cold(0)),
+        seen(false, Gpi::Realm, 0, Via::Still),
+        seen(true, Gpi::Realm, 1, cold(4)),
+    ];
+    assert_eq!(rt; cpu.answers(), want.as_slice());
     Ok(())
 }
