@@ -1,5 +1,5 @@
 -- What an act does to the shared words, and what it answers.
-use Rattle.std.specs.Prelude.{ℕ, List, slice_index, slice_set}
+use Rattle.std.specs.Prelude.{ℕ, zero, suc, ◌+◌, List, slice_index, slice_set}
 use Rattle.std.specs.Int.Bits.{bit_and, bit_or}
 use Rattle.shared_words.specs.declared.act.Act.{Act}
 use Rattle.shared_words.specs.declared.act.Act.TheVariants as act
@@ -31,3 +31,10 @@ after_act a words = slice_set words (place_in a) (written a (slice_index words (
 
 abbrev pub answer_of : Act → List ℕ → ℕ
 answer_of a words = said a (slice_index words (place_in a))
+
+-- the words after stores of one value at this number of places, one after another from the first
+-- place on
+unfoldable pub after_stores : ℕ → ℕ → ℕ → List ℕ → List ℕ
+after_stores first zero value words = words
+after_stores first (suc n) value words =
+    after_act (act.Store (first + n) value) (after_stores first n value words)

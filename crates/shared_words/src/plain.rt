@@ -1,6 +1,6 @@
-ghost use Rattle.std.specs.Prelude.{◌≡◌, ◌<◌, List, length, IfOk};
+ghost use Rattle.std.specs.Prelude.{◌≡◌, ◌+◌, ◌^◌, ◌<◌, ◌≤◌, List, length, replicate, IfOk};
 ghost use Rattle.gpt_descriptors.specs.Places.{l1_words, word_count};
-ghost use Rattle.shared_words.specs.Acts.{place_in, answer_of, after_act};
+ghost use Rattle.shared_words.specs.Acts.{place_in, answer_of, after_act, after_stores};
 ghost use Rattle.shared_words.specs.Start.{start_words};
 
 use crate::act::{Act, Words};
@@ -56,6 +56,23 @@ impl PlainWords {
     }
 }
 
+/// Stores this value at each of these words.
+fn store_all(words: &mut [u64], value: u64)
+    ensures { words.new ≡ replicate (length words.old) value }
+{
+    words.fill(value);
+}
+
+/// Stores one value at this number of places from `first` on.
+#[tactic(auto, using(crate::proofs::StoreLemmas::stores_filled))]
+fn store_run(words: &mut [u64], first: usize, count: usize, value: u64)
+    requires room { first + count < 2 ^ 64 }
+    requires within { first + count ≤ length words.old }
+    ensures { words.new ≡ after_stores first count value words.old }
+{
+    store_all(&mut words[first..first + count], value);
+}
+
 impl Words for PlainWords {
     ghost words = { λ w. w };
 
@@ -77,5 +94,9 @@ impl Words for PlainWords {
                 old
             }
         }
+    }
+
+    fn fill(&mut self, first: usize, count: usize, value: u64) {
+        store_run(self.words.as_mut_slice(), first, count, value);
     }
 }
