@@ -5,31 +5,32 @@ use Rattle.std.proofs.lemmas.List.Edits.{fill_from_more, paste_none}
 use Rattle.std.proofs.lemmas.Slice.{put_mid-paste}
 use lib.Seq.{paste}
 use borrow.Rule.Slice.PartMut.{put_mid}
-use Rattle.shared_words.specs.declared.act.Act.TheVariants as act
-use Rattle.shared_words.specs.Acts.{after_act, after_stores}
+use Rattle.shared_words.specs.declared.act.StoreRun.{StoreRun}
+use Rattle.shared_words.specs.Acts.{store_in, after_act, after_stores}
 
-pub stores_none : (first value : ℕ) (words : List ℕ) → after_stores first 0 value words ≡ words
+pub stores_none : (run : StoreRun) (words : List ℕ) → after_stores run 0 words ≡ words
 unfolding after_stores
-stores_none first value words = refl
+stores_none run words = refl
 
-pub stores_more : (first n value : ℕ) (words : List ℕ) → after_stores first (n + 1) value words ≡ after_act (act.Store (first + n) value) (after_stores first n value words)
+pub stores_more : (run : StoreRun) (n : ℕ) (words : List ℕ) → after_stores run (n + 1) words ≡ after_act (store_in run n) (after_stores run n words)
 unfolding after_stores
-stores_more first n value words = ap (λ (k : ℕ). after_stores first k value words) (add-one n)
+stores_more run n words = ap (λ (k : ℕ). after_stores run k words) (add-one n)
 
-pub stores-length : (first n value : ℕ) (words : List ℕ) → length (after_stores first n value words) ≡ length words
+pub stores-length : (run : StoreRun) (n : ℕ) (words : List ℕ) → length (after_stores run n words) ≡ length words
 unfolding after_stores
-stores-length first zero value words = refl
-stores-length first (suc n) value words = length-set _ _ _ ∙ stores-length first n value words
+stores-length run zero words = refl
+stores-length run (suc n) words = length-set _ _ _ ∙ stores-length run n words
 
 pub ruleset run_steps = (stores_none, stores_more, stores-length)
 
 -- a part of the words that is filled
-stores_paste : (first n value : ℕ) (words : List ℕ) → first + n ≤ length words → after_stores first n value words ≡ paste words first (replicate n value) n
+stores_paste : (run : StoreRun) (n : ℕ) (words : List ℕ) → run.first + n ≤ length words → after_stores run n words ≡ paste words run.first (replicate n run.value) n
 unfolding after_stores
-stores_paste first zero value words within = paste_none words first (replicate 0 value)
-stores_paste first (suc n) value words within =
-    ap (λ (xs : List ℕ). set xs (first + n) value) (stores_paste first n value words (omega arith)) ∙ fill_from_more words first n value (omega arith)
-    ∙ ap (λ (k : ℕ). paste words first (replicate k value) k) (add-one n)
+stores_paste run zero words within = paste_none words run.first (replicate 0 run.value)
+stores_paste run (suc n) words within =
+    ap (λ (xs : List ℕ). set xs (run.first + n) run.value) (stores_paste run n words (omega arith)) ∙ fill_from_more words run.first n run.value (omega arith)
+    ∙ ap (λ (k : ℕ). paste words run.first (replicate k run.value) k) (add-one n)
 
-pub stores_filled : (first n value : ℕ) (words : List ℕ) → first + n ≤ length words → put_mid first n words (replicate n value) ≡ after_stores first n value words
-stores_filled first n value words within = put_mid-paste first n words (replicate n value) (replicate n value) n refl refl (sym (length-replicate n value)) ∙ sym (stores_paste first n value words within)
+pub stores_filled : (run : StoreRun) (n : ℕ) (words : List ℕ) → run.first + n ≤ length words → put_mid run.first n words (replicate n run.value) ≡ after_stores run n words
+stores_filled run n words within =
+    put_mid-paste run.first n words (replicate n run.value) (replicate n run.value) n refl refl (sym (length-replicate n run.value)) ∙ sym (stores_paste run n words within)

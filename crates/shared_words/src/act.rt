@@ -14,6 +14,14 @@ pub enum Act {
     And(usize, u64),
 }
 
+/// A run of stores: one value at `count` places, one after another from `first` on.
+#[derive(Clone, Copy, Debug, PartialEq, Eq)]
+pub struct StoreRun {
+    pub first: usize,
+    pub count: usize,
+    pub value: u64,
+}
+
 /// A list of shared words.
 pub trait Words {
     ghost words: { Self → List ℕ };
@@ -25,16 +33,15 @@ pub trait Words {
         ensures answer { result ≡ answer_of act (words self.old) }
         ensures after { words self.new ≡ after_act act (words self.old) };
 
-    /// Makes a run of stores: one value at this number of places, one after another from `first`
-    /// on.
+    /// Makes the stores of a run, in their order.
     #[tactic(auto, using(crate::proofs::StoreLemmas::run_steps))]
-    fn fill(&mut self, first: usize, count: usize, value: u64)
-        requires room { first + count < 2 ^ 64 }
-        requires within { first + count ≤ length (words self.old) }
-        ensures { words self.new ≡ after_stores first count value (words self.old) }
+    fn fill(&mut self, run: StoreRun)
+        requires room { run.first + run.count < 2 ^ 64 }
+        requires within { run.first + run.count ≤ length (words self.old) }
+        ensures { words self.new ≡ after_stores run run.count (words self.old) }
     {
-        for number in 0..count {
-            self.apply(Act::Store(first + number, value));
+        for number in 0..run.count {
+            self.apply(Act::Store(run.first + number, run.value));
         }
     }
 }

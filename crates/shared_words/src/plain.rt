@@ -3,7 +3,7 @@ ghost use Rattle.gpt_descriptors.specs.Places.{l1_words, word_count};
 ghost use Rattle.shared_words.specs.Acts.{place_in, answer_of, after_act, after_stores};
 ghost use Rattle.shared_words.specs.Start.{start_words};
 
-use crate::act::{Act, Words};
+use crate::act::{Act, StoreRun, Words};
 use gpt_descriptors::Geometry;
 use std::alloc::{AllocError, Global};
 use std::marker::Model;
@@ -63,14 +63,14 @@ fn store_all(words: &mut [u64], value: u64)
     words.fill(value);
 }
 
-/// Stores one value at this number of places from `first` on.
+/// Makes the stores of a run on these words.
 #[tactic(auto, using(crate::proofs::StoreLemmas::stores_filled))]
-fn store_run(words: &mut [u64], first: usize, count: usize, value: u64)
-    requires room { first + count < 2 ^ 64 }
-    requires within { first + count ≤ length words.old }
-    ensures { words.new ≡ after_stores first count value words.old }
+fn store_run(words: &mut [u64], run: StoreRun)
+    requires room { run.first + run.count < 2 ^ 64 }
+    requires within { run.first + run.count ≤ length words.old }
+    ensures { words.new ≡ after_stores run run.count words.old }
 {
-    store_all(&mut words[first..first + count], value);
+    store_all(&mut words[run.first..run.first + run.count], run.value);
 }
 
 impl Words for PlainWords {
@@ -96,7 +96,7 @@ impl Words for PlainWords {
         }
     }
 
-    fn fill(&mut self, first: usize, count: usize, value: u64) {
-        store_run(self.words.as_mut_slice(), first, count, value);
+    fn fill(&mut self, run: StoreRun) {
+        store_run(self.words.as_mut_slice(), run);
     }
 }

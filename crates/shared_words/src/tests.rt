@@ -159,11 +159,11 @@ impl Words for OneByOne {
 }
 
 /// Makes a run through the trait.
-fn make_run<W: Words>(words: &mut W, first: usize, count: usize, value: u64)
-    requires room { first + count < 2 ^ 64 }
-    requires within { first + count ≤ length (W.words words.old) }
+fn make_run<W: Words>(words: &mut W, run: StoreRun)
+    requires room { run.first + run.count < 2 ^ 64 }
+    requires within { run.first + run.count ≤ length (W.words words.old) }
 {
-    words.fill(first, count, value);
+    words.fill(run);
 }
 
 #[test]
@@ -177,8 +177,13 @@ fn a_run_stores_at_its_places_alone(rt: HostRuntime) -> Result<(), Fail> {
         if shared.words().len() != 34_956 || single.0.words().len() != 34_956 {
             return Err("other words")?;
         }
-        make_run(&mut shared, first, count, 0xa5);
-        make_run(&mut single, first, count, 0xa5);
+        let run = StoreRun {
+            first,
+            count,
+            value: 0xa5,
+        };
+        make_run(&mut shared, run);
+        make_run(&mut single, run);
         assert!(rt;
             shared.words() == single.0.words(),
             "{count} from {first} on"
