@@ -1,2 +1,3 @@
 pub mod IndexLemmas
 pub mod ScriptLemmas
+pub mod RunLemmas

@@ -22,6 +22,19 @@ pub struct StoreRun {
     pub value: u64,
 }
 
+impl StoreRun {
+    /// A run of no store.
+    pub fn empty() -> StoreRun
+        ensures { result ≡ record { first = 0; count = 0; value = 0 } }
+    {
+        StoreRun {
+            first: 0,
+            count: 0,
+            value: 0,
+        }
+    }
+}
+
 /// A list of shared words.
 pub trait Words {
     ghost words: { Self → List ℕ };
