@@ -8,3 +8,4 @@ pub mod NextLemmas
 pub mod FollowLemmas
 pub mod PlaceLemmas
 pub mod TransitionLemmas
+pub mod RunLemmas

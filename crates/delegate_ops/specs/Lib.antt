@@ -6,3 +6,4 @@ pub mod InnerAgents
 pub mod InnerTransition
 pub mod InnerScript
 pub mod InnerEntries
+pub mod InnerRuns

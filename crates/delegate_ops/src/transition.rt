@@ -1,10 +1,11 @@
-ghost use Rattle.std.specs.Prelude.{◌≡◌, ◌<◌, ℕ, IsSome, IsTrue, is_some, Some, None, false};
+ghost use Rattle.std.specs.Prelude.{◌≡◌, ◌+◌, ◌^◌, ◌<◌, ◌≤◌, ℕ, IsSome, IsTrue, is_some, Some, None, false};
 ghost use Rattle.gpt_descriptors.specs.Entries.{l1_entry, word_gpi};
 ghost use Rattle.gpt_descriptors.specs.Places.{GeometryData, l1_index_of, l1_place_of};
 ghost use Rattle.fuse.specs.Merging.{fuse_of};
 ghost use Rattle.delegate_ops.specs.Deciding.{address_of, idle_answer, worn_answer, refusal_of};
 ghost use Rattle.delegate_ops.specs.InnerAgents.{IsReadable, is_look, number_of, looked_stage, loaded_stage, read_all, read_stage, split_stage, merged_stage, raised_stage, stage_after};
-ghost use Rattle.delegate_ops.specs.InnerTransition.{IsTransition, begun, next_by, is_held_by, answer_by, after_by};
+ghost use Rattle.delegate_ops.specs.InnerTransition.{IsTransition, begun, next_by, is_held_by, answer_by, after_by, goes_by};
+ghost use Rattle.delegate_ops.specs.InnerRuns.{IsStoring, MakesRun};
 
 use crate::blocks::{merging_of, splitting_of};
 use crate::changing::{changed_word, first_change};
@@ -15,7 +16,7 @@ use bit_locks::{drop_act, take, was_free};
 use fuse::Fuse;
 use gpt_descriptors::{Generations, Geometry, L1Entry, Size, decode_l1, granules_of, is_granules};
 use history::{Answer, Task};
-use shared_words::Act;
+use shared_words::{Act, StoreRun};
 use shatter::Splitting;
 use std::marker::Model;
 
@@ -238,6 +239,47 @@ impl Transition {
             self.stage = self.stage_after(geometry, old);
         }
         None
+    }
+
+    /// Goes on after the next stores of a splitting or of merging.
+    fn go_on(&mut self, stage: Stage)
+        ensures { self.new ≡ goes_by self.old stage }
+    {
+        self.stage = stage;
+        self.waited = false;
+    }
+
+    /// Its next stores of one value at places one after another, at most this number, as one run.
+    /// They were made. The run is empty where the next act isn't a store of a splitting or of
+    /// merging.
+    pub fn take_run(&mut self, most: usize) -> StoreRun
+        ensures run { MakesRun self.old result self.new }
+        ensures most { result.count ≤ most }
+        ensures some { (g : GeometryData) → IsTransition g self.old → 0 < most
+            → IsStoring self.old.stage → 0 < result.count }
+        ensures room { result.first + result.count < 2 ^ 64 }
+    {
+        match &self.stage {
+            Stage::Splitting(size, splitting, generations) => {
+                let mut splitting = *splitting;
+                let run = splitting.take_run(most);
+                if run.count > 0 {
+                    let stage = split_stage(self.task, *size, splitting, *generations);
+                    self.go_on(stage);
+                }
+                run
+            }
+            Stage::Merging(fuse, generations) => {
+                let mut fuse = *fuse;
+                let run = fuse.take_run(most);
+                if run.count > 0 {
+                    let stage = merged_stage(fuse, *generations);
+                    self.go_on(stage);
+                }
+                run
+            }
+            _ => StoreRun::empty(),
+        }
     }
 
     /// Whether the last act was a lock that wasn't free.
