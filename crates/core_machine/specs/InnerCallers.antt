@@ -1,7 +1,9 @@
 -- Callers as plain data: their acts, their answers, and the entries that their acts make.
-use Rattle.std.specs.Prelude.{ℕ, ◌-◌, Bool, false, List, [], ◌++◌, length, Option, None}
+use Rattle.std.specs.Prelude.{◌≡◌, ℕ, zero, suc, ◌-◌, ◌<◌, Bool, false, List, [], ◌++◌, length, Option, Some, None}
 use Rattle.gpt_descriptors.specs.Sizes.{granule_bytes}
 use Rattle.shared_words.specs.declared.act.Act.{Act}
+use Rattle.shared_words.specs.declared.act.StoreRun.{StoreRun}
+use Rattle.shared_words.specs.Acts.{store_in}
 use Rattle.history.specs.declared.call.Answer.{Answer}
 use Rattle.history.specs.declared.entry.Entry.{Entry}
 use Rattle.history.specs.Calls.{answered_entries}
@@ -41,6 +43,18 @@ caller_left (caller.Cpu looks) = looks
 abbrev pub call_of : Caller → ℕ
 call_of (caller.Agent a) = length a.answers
 call_of (caller.Cpu looks) = 0
+
+-- ---- runs of stores
+
+-- the caller after its next n acts, which are stores
+unfoldable pub caller_stored : ℕ → Caller → Caller
+caller_stored zero x = x
+caller_stored (suc n) x = caller_took (caller_stored n x) 0
+
+-- the stores of this run are its next acts
+abbrev pub AreNext : StoreRun → Caller → Type 0
+AreNext run x =
+    (k : ℕ) → k < run.count → caller_next (caller_stored k x) ≡ Some (store_in run k)
 
 -- ---- entries
 
