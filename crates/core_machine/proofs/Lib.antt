@@ -32,3 +32,4 @@ pub mod RunLemmas
 pub mod CallerLaws
 pub mod StillLemmas
 pub mod LeaveLemmas
+pub mod StoreLemmas

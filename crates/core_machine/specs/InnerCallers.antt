@@ -1,10 +1,12 @@
 -- Callers as plain data: what the facts of the core read of them, by their kind. What it is of an
 -- agent is in InnerAgentCaller, what of a processor in InnerCpuCaller.
-use Rattle.std.specs.Prelude.{ℕ, Bool, false, List, [], length, Option, Some, None}
+use Rattle.std.specs.Prelude.{◌≡◌, ℕ, zero, suc, ◌<◌, Bool, false, List, [], length, Option, Some, None}
 use Rattle.gpi_values.specs.declared.gpi.Gpi.{Gpi}
 use Rattle.gpt_descriptors.specs.declared.size.Size.{Size}
 use Rattle.gpt_descriptors.specs.Places.{GeometryData}
 use Rattle.shared_words.specs.declared.act.Act.{Act}
+use Rattle.shared_words.specs.declared.act.StoreRun.{StoreRun}
+use Rattle.shared_words.specs.Acts.{store_in}
 use Rattle.table_meaning.specs.Equation.{Holder}
 use Rattle.history.specs.declared.call.Task.{Task}
 use Rattle.history.specs.declared.call.Answer.{Answer}
@@ -78,6 +80,18 @@ call_of x = length (caller_answers x)
 abbrev pub known_answers : Caller → List Answer
 known_answers (caller.Agent a) = agent_known a
 known_answers (caller.Cpu looks) = cpu_known looks
+
+-- ---- runs of stores
+
+-- the caller after its next n acts, which are stores
+unfoldable pub caller_stored : ℕ → Caller → Caller
+caller_stored zero x = x
+caller_stored (suc n) x = caller_took (caller_stored n x) 0
+
+-- the stores of this run are its next acts
+abbrev pub AreNext : StoreRun → Caller → Type 0
+AreNext run x =
+    (k : ℕ) → k < run.count → caller_next (caller_stored k x) ≡ Some (store_in run k)
 
 -- ---- entries
 

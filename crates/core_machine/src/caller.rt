@@ -1,11 +1,11 @@
-ghost use Rattle.std.specs.Prelude.{◌≡◌, IsSome, false};
+ghost use Rattle.std.specs.Prelude.{◌≡◌, ◌+◌, ◌^◌, ◌<◌, ◌≤◌, IsSome, false};
 ghost use Rattle.shared_words.specs.Next.{old_by, words_after, MayBeMade};
 ghost use Rattle.delegate_ops.specs.InnerAgents.{IsStill};
-ghost use Rattle.core_machine.specs.InnerCallers.{caller_next, caller_took, caller_waits, caller_answers, caller_left, MayTake};
+ghost use Rattle.core_machine.specs.InnerCallers.{caller_next, caller_took, caller_waits, caller_answers, caller_left, MayTake, caller_stored, AreNext};
 
 use delegate_ops::Agent;
 use history::Answer;
-use shared_words::{Act, Words};
+use shared_words::{Act, StoreRun, Words};
 use std::alloc::Global;
 
 /// One that acts on the shared words: an agent, or a processor, of which the number of accesses
@@ -53,6 +53,22 @@ impl Caller {
         match self {
             Caller::Agent(agent) => agent.turn(words),
             Caller::Cpu(_) => false,
+        }
+    }
+
+    /// Its next stores of one value at places one after another, at most this number, as one run.
+    /// They were made. The run is empty where the next act isn't a store of a splitting or of
+    /// merging.
+    #[tactic(auto, using(crate::proofs::StoreLemmas::caller_runs))]
+    pub fn take_run(&mut self, most: usize) -> StoreRun
+        ensures next { AreNext result self.old }
+        ensures after { self.new ≡ caller_stored result.count self.old }
+        ensures most { result.count ≤ most }
+        ensures room { result.first + result.count < 2 ^ 64 }
+    {
+        match self {
+            Caller::Agent(agent) => agent.take_run(most),
+            Caller::Cpu(_) => StoreRun::empty(),
         }
     }
 

@@ -1,8 +1,9 @@
-ghost use Rattle.std.specs.Prelude.{◌≡◌, ◌<◌, ℕ, List, [], ◌++◌, length, false};
+ghost use Rattle.std.specs.Prelude.{◌≡◌, ◌<◌, ◌≤◌, ℕ, List, [], ◌++◌, length, replicate, false};
 ghost use Rattle.std.specs.List.{All};
 ghost use Rattle.gpi_values.specs.declared.gpi.Gpi.{Gpi};
 ghost use Rattle.core_machine.specs.InnerOpening.{IsFresh, AreStarting};
-ghost use Rattle.core_machine.specs.InnerMachine.{InvariantFor, HasInvariant, KeepsInvariant, after_turn, turn_entries, MachineData, machine_of};
+ghost use Rattle.core_machine.specs.InnerMachine.{InvariantFor, HasInvariant, KeepsInvariant, after_turn, after_turns, turn_entries, trace_of, MachineData, machine_of};
+ghost use Rattle.core_machine.specs.Trace.{history_of};
 ghost use Rattle.delegate_ops.specs.InnerAgents.{fresh};
 
 use crate::caller::Caller;
@@ -64,6 +65,25 @@ impl<W: Words> Machine<W> {
         ensures invariant { KeepsInvariant self.old self.new (turn_entries self.old caller) }
     {
         self.step(caller);
+    }
+
+    /// Turns of a caller in which it makes a run of stores of a splitting or of merging, at most this
+    /// number, and how many they were: none where its next act isn't such a store. They are as good
+    /// as the same number of single turns.
+    pub fn run(&mut self, caller: usize, most: u32) -> u32
+        requires caller { caller < length self.old.callers }
+        requires invariant { HasInvariant self.old }
+        ensures turns { self.new ≡ after_turns self.old (replicate result caller) }
+        ensures invariant { KeepsInvariant self.old self.new
+            (history_of (trace_of self.old (replicate result caller))) }
+        ensures most { result ≤ most }
+    {
+        let run = self.callers[caller].take_run(most as usize);
+        if run.count == 0 {
+            return 0;
+        }
+        self.words.fill(run);
+        run.count as u32
     }
 
     /// The geometry of the shared words.

@@ -1,6 +1,6 @@
-ghost use Rattle.std.specs.Prelude.{◌≡◌, ◌<◌, length, replicate, false};
+ghost use Rattle.std.specs.Prelude.{◌≡◌, ◌<◌, ◌≤◌, length, replicate, false};
 ghost use Rattle.std.specs.List.{All, flat_map};
-ghost use Rattle.core_machine.specs.InnerMachine.{HasInvariant, after_turns};
+ghost use Rattle.core_machine.specs.InnerMachine.{HasInvariant, after_turn, after_turns};
 ghost use Rattle.core_machine.specs.InnerPlay.{NamesCaller};
 ghost use Rattle.core_machine.specs.Scenarios.{round_turns, rounds_of, slot_turns};
 
@@ -9,6 +9,26 @@ use scenario_text::Slot;
 use shared_words::Words;
 
 impl<W: Words> Machine<W> {
+    /// Turns of a caller, at most this number: those of a run of its stores, or one, and how many
+    /// they were. They were none exactly where a turn changes nothing.
+    fn stride(&mut self, caller: usize, most: u32) -> u32
+        requires caller { caller < length self.old.callers }
+        requires invariant { HasInvariant self.old }
+        requires some { 0 < most }
+        ensures turns { self.new ≡ after_turns self.old (replicate result caller) }
+        ensures most { result ≤ most }
+        ensures still { result ≡ 0 → after_turn self.old caller ≡ self.old }
+    {
+        let run = self.run(caller, most);
+        if run > 0 {
+            run
+        } else if self.step(caller) {
+            1
+        } else {
+            0
+        }
+    }
+
     /// This number of turns of one caller, and whether they may have changed anything. It stops at
     /// a turn that changes nothing, since no later one does.
     fn turns(&mut self, caller: usize, count: u32) -> bool
@@ -17,14 +37,15 @@ impl<W: Words> Machine<W> {
         ensures turns { self.new ≡ after_turns self.old (replicate count caller) }
         ensures still { result ≡ false → self.new ≡ self.old }
     {
-        let mut changed = false;
-        for _ in 0..count {
-            if !self.step(caller) {
-                return changed;
+        let mut made = 0;
+        while made < count {
+            let turns = self.stride(caller, count - made);
+            if turns == 0 {
+                return made > 0;
             }
-            changed = true;
+            made += turns;
         }
-        changed
+        made > 0
     }
 
     /// This number of turns of each caller in order, and whether they may have changed anything.

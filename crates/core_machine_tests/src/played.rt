@@ -162,6 +162,39 @@ fn a_splitting_may_be_cut_in_the_middle(rt: HostRuntime) -> Result<(), Fail> {
     Ok(())
 }
 
+/// What is left of a delegate and an undelegate in the middle of 512 MB by these lines.
+fn played_between(alloc: Global, lines: &str) -> Result<Outcome, Fail> {
+    let rest = format!(in alloc;
+        "agent\ndelegate 0x10215000 realm\nundelegate 0x10215000 realm\n{lines}"
+    )?;
+    played_at(alloc, 512, 0, "nonsecure", rest.as_str())
+}
+
+/// Turns in the middle of a splitting, at its end, in the tests of merging, in the middle of
+/// merging, at its end, and beyond it.
+const TURNS: [u64; 10] = [
+    6, 4101, 4136, 8196, 8197, 8240, 8279, 12_000, 16_470, 16_500,
+];
+
+#[test]
+fn turns_of_one_line_leave_what_single_turns_leave(rt: HostRuntime) -> Result<(), Fail> {
+    for turns in TURNS {
+        let line = format!(in rt.alloc(); "turn 0 {turns}\n")?;
+        let single = format!(in rt.alloc(); "round 1 {turns}\n")?;
+        let short = format!(in rt.alloc(); "round 7 {}\nturn 0 {}\n", turns / 7, turns % 7)?;
+        let wanted = played_between(rt.alloc(), single.as_str())?;
+        for lines in [line.as_str(), short.as_str()] {
+            let found = played_between(rt.alloc(), lines)?;
+            assert!(rt;
+                found.words.as_slice() == wanted.words.as_slice(),
+                "{turns} turns"
+            );
+            assert_eq!(rt; answers(&found, 0)?, answers(&wanted, 0)?, "{turns} turns");
+        }
+    }
+    Ok(())
+}
+
 #[test]
 fn a_granule_that_comes_back_lets_512_mb_merge(rt: HostRuntime) -> Result<(), Fail> {
     let rest = "agent\ndelegate 0x0 realm\nundelegate 0x0 realm\nturn 0 16470\n";

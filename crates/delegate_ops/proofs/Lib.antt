@@ -9,3 +9,4 @@ pub mod FollowLemmas
 pub mod PlaceLemmas
 pub mod TransitionLemmas
 pub mod TurnLemmas
+pub mod RunLemmas

@@ -48,10 +48,10 @@ read_keeps g t size.Two k readable = readable
 read_keeps g t size.ThirtyTwo k readable = readable
 read_keeps g t size.FiveTwelve k readable = read_all_keeps g (worn_answer k.generations) t k
 
-split_keeps : (t : Task) (z : Size) (d : SplittingData) (k : Generations) → KeepsDescriptor (split_stage t z d k)
+pub split_keeps : (t : Task) (z : Size) (d : SplittingData) (k : Generations) → KeepsDescriptor (split_stage t z d k)
 split_keeps t z d k = elim (cases_Bool (ltb d.made d.words)) [ inl more ↦ rw more tt | inr over ↦ rw over tt ]
 
-merging_keeps : (o : Option Act) (f : FuseData) (k : Generations) → KeepsDescriptor (merging_stage o f k)
+pub merging_keeps : (o : Option Act) (f : FuseData) (k : Generations) → KeepsDescriptor (merging_stage o f k)
 merging_keeps None f k = tt
 merging_keeps (Some next) f k = tt
 
@@ -132,7 +132,7 @@ begun_waited g None = refl
 begun_waited g (Some t) = refl
 
 -- the task under way is the transition's
-under_way_at : (g : GeometryData) (o : Option Task) (d : TransitionData) → IsUnderWay g o (Some d) → (o ≡ Some d.task) × IsTransition g d
+pub under_way_at : (g : GeometryData) (o : Option Task) (d : TransitionData) → IsUnderWay g o (Some d) → (o ≡ Some d.task) × IsTransition g d
 under_way_at g None d is = absurd is
 under_way_at g (Some t) d is = (ap (λ (u : Task). Some u) (sym is.0), is.1)
 
@@ -229,7 +229,7 @@ still_task : (g : GeometryData) (d : TransitionData) (old : ℕ) (o : Option Ans
 still_task g d old (Some given) = refl
 still_task g d old None = elim (cases_Bool (is_held_by d.places d.stage old)) [ inl held ↦ rw held refl | inr free ↦ rw free refl ]
 
-still_at : (g : GeometryData) (o : Option Task) (d e : TransitionData) → e.task ≡ d.task → IsTransition g e → IsUnderWay g o (Some d) → IsUnderWay g o (Some e)
+pub still_at : (g : GeometryData) (o : Option Task) (d e : TransitionData) → e.task ≡ d.task → IsTransition g e → IsUnderWay g o (Some d) → IsUnderWay g o (Some e)
 still_at g None d e task is under_way = absurd under_way
 still_at g (Some t) d e task is under_way = (task ∙ under_way.0, is)
 

@@ -7,3 +7,4 @@ pub mod InnerAgents
 pub mod InnerTransition
 pub mod InnerScript
 pub mod InnerEntries
+pub mod InnerRuns

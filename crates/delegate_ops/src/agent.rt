@@ -1,9 +1,10 @@
-ghost use Rattle.std.specs.Prelude.{◌≡◌, ◌-◌, ◌≤◌, ◌++◌, IfOk, IfSome, IsSome, IsTrue, is_some, not, Some, None, length, drop, false, slice_get, vec_capacity};
+ghost use Rattle.std.specs.Prelude.{◌≡◌, ◌<◌, ◌^◌, ◌+◌, ◌-◌, ◌≤◌, ◌++◌, IfOk, IfSome, IsSome, IsTrue, is_some, not, Some, None, length, drop, false, slice_get, vec_capacity};
 ghost use Rattle.std.specs.List.{All};
 ghost use Rattle.std.specs.Option.{option_map};
 ghost use Rattle.delegate_ops.specs.Deciding.{idle_answer};
 ghost use Rattle.delegate_ops.specs.InnerAgents.{is_look, task_of, fresh, idle_answers, has_ended, next_of, after_answer, took_of, IsStill, HasActs, IsReadable};
 ghost use Rattle.delegate_ops.specs.InnerTransition.{begun, IsUnderWay};
+ghost use Rattle.delegate_ops.specs.InnerRuns.{stored_by, AreNext, IsStoring};
 ghost use Rattle.shared_words.specs.Next.{old_by, words_after, MayBeMade};
 
 use crate::deciding::idle_answer;
@@ -11,7 +12,7 @@ use crate::progress::Turned;
 use crate::transition::Transition;
 use gpt_descriptors::Geometry;
 use history::{Answer, Task};
-use shared_words::{Act, Words};
+use shared_words::{Act, StoreRun, Words};
 use std::alloc::{AllocError, Global};
 use std::marker::Model;
 
@@ -184,6 +185,22 @@ impl Agent {
             },
             None => false,
         }
+    }
+
+    /// Its next stores of one value at places one after another, at most this number, as one run.
+    /// They were made. The run is empty where the next act isn't a store of a splitting or of
+    /// merging, or where this number is 0.
+    pub fn take_run(&mut self, most: usize) -> StoreRun
+        ensures next { AreNext result self.old }
+        ensures after { self.new ≡ stored_by result.count self.old }
+        ensures most { result.count ≤ most }
+        ensures some { 0 < most → IsStoring self.old.stage → 0 < result.count }
+        ensures room { result.first + result.count < 2 ^ 64 }
+    {
+        let Some(transition) = &mut self.transition else {
+            return StoreRun::empty();
+        };
+        transition.take_run(most)
     }
 
     /// Whether the last act was a lock that wasn't free.

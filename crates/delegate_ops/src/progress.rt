@@ -1,4 +1,4 @@
-ghost use Rattle.std.specs.Prelude.{◌≡◌, ◌<◌, ◌==◌, not, if◌then◌else◌, IsSome, IsTrue, is_some, None};
+ghost use Rattle.std.specs.Prelude.{◌≡◌, ◌+◌, ◌^◌, ◌<◌, ◌≤◌, ◌==◌, not, if◌then◌else◌, IsSome, IsTrue, is_some, None};
 ghost use Rattle.std.specs.Int.Bits.{bit_and};
 ghost use Rattle.gpt_descriptors.specs.Entries.{l1_entry, word_gpi};
 ghost use Rattle.gpt_descriptors.specs.Places.{GeometryData, l1_index_of};
@@ -10,6 +10,8 @@ ghost use Rattle.delegate_ops.specs.InnerStages.{stage_of, waits_in, kept_read};
 ghost use Rattle.delegate_ops.specs.InnerStages as stage;
 ghost use Rattle.delegate_ops.specs.declared.stage.Phase.TheVariants as the_phase;
 ghost use Rattle.delegate_ops.specs.InnerAgents.{IsReadable, number_of, looked_stage, loaded_stage, read_all, read_stage, split_stage, merged_stage, raised_stage, stage_after};
+ghost use Rattle.delegate_ops.specs.InnerRuns.{IsStoring, MakesRun};
+ghost use Rattle.delegate_ops.specs.declared.places.Places.{Places as ThePlaces};
 ghost use Rattle.delegate_ops.specs.InnerTransition.{IsTransition, act_by, answer_by, after_by, at_progress, turned_by, GoesTo};
 
 use crate::blocks::{merging_of, splitting_of};
@@ -21,7 +23,7 @@ use bit_locks::{Bit, drop_act, take, was_free};
 use fuse::{Fuse, has_acts};
 use gpt_descriptors::{Geometry, Gpi, L1Entry, Size, decode_l1, granules_of, l1_field};
 use history::{Answer, Task};
-use shared_words::{Act, Words};
+use shared_words::{Act, StoreRun, Words};
 use shatter::Splitting;
 
 /// What a turn of a transition was.
@@ -185,6 +187,18 @@ impl Progress {
         }
     }
 
+    /// Some stores of the splitting of a block of this size were made.
+    fn settle_split(&mut self, task: Task, size: Size)
+        requires { self.old.phase ≡ the_phase.Splitting size }
+        ensures { GoesTo self.new
+            (split_stage task size self.old.splitting self.old.kept.generations) }
+    {
+        if self.splitting.is_over() {
+            self.kept.word = granules_of(self.splitting.gpi());
+            self.phase = Phase::Changing(first_change(task));
+        }
+    }
+
     /// A store of the splitting of a block of this size was made.
     fn split(&mut self, task: Task, size: Size)
         requires phase { self.old.phase ≡ the_phase.Splitting size }
@@ -193,10 +207,7 @@ impl Progress {
             (split_stage task size (advanced self.old.splitting) self.old.kept.generations) }
     {
         self.splitting.advance();
-        if self.splitting.is_over() {
-            self.kept.word = granules_of(self.splitting.gpi());
-            self.phase = Phase::Changing(first_change(task));
-        }
+        self.settle_split(task, size);
     }
 
     /// The L1 word was written with this change.
@@ -287,6 +298,36 @@ impl Progress {
             }
             Phase::Merging => self.merged(old),
             Phase::Releasing(_) => {}
+        }
+    }
+
+    /// The next stores of a splitting or of merging, at most this number, as one run. They were
+    /// made. The run is empty where the next act isn't such a store.
+    pub fn take_run(&mut self, task: Task, most: usize) -> StoreRun
+        ensures run { (p : ThePlaces)
+            → MakesRun (at_progress task p self.old) result (at_progress task p self.new) }
+        ensures most { result.count ≤ most }
+        ensures some { (g : GeometryData) (p : ThePlaces)
+            → IsTransition g (at_progress task p self.old) → 0 < most
+            → IsStoring (stage_of self.old) → 0 < result.count }
+        ensures room { result.first + result.count < 2 ^ 64 }
+    {
+        match self.phase {
+            Phase::Splitting(size) => {
+                let run = self.splitting.take_run(most);
+                if run.count > 0 {
+                    self.settle_split(task, size);
+                }
+                run
+            }
+            Phase::Merging => {
+                let run = self.merging.take_run(most);
+                if run.count > 0 {
+                    self.settle();
+                }
+                run
+            }
+            _ => StoreRun::empty(),
         }
     }
 

@@ -1,15 +1,16 @@
-ghost use Rattle.std.specs.Prelude.{◌≡◌, ℕ, IsTrue, None, false};
+ghost use Rattle.std.specs.Prelude.{◌≡◌, ◌+◌, ◌^◌, ◌<◌, ◌≤◌, ℕ, IsTrue, None, false};
 ghost use Rattle.gpt_descriptors.specs.Places.{GeometryData};
 ghost use Rattle.shared_words.specs.Next.{old_by, words_after, MayBeMade};
 ghost use Rattle.delegate_ops.specs.Deciding.{idle_answer};
 ghost use Rattle.delegate_ops.specs.InnerAgents.{IsReadable, is_look};
 ghost use Rattle.delegate_ops.specs.InnerTransition.{IsTransition, begun, next_by, answer_by, after_by, turned_by};
+ghost use Rattle.delegate_ops.specs.InnerRuns.{IsStoring, MakesRun};
 
 use crate::places::Places;
 use crate::progress::{Progress, Turned};
 use gpt_descriptors::Geometry;
 use history::{Answer, Task};
-use shared_words::{Act, Words};
+use shared_words::{Act, StoreRun, Words};
 use std::marker::Model;
 
 /// One transition of a granule, act by act. Its places are worked out once; it takes no memory.
@@ -105,6 +106,19 @@ impl Transition {
         ensures transition { IsTransition geometry.now self.new }
     {
         self.progress.turn(geometry, &self.places, self.task, words)
+    }
+
+    /// Its next stores of one value at places one after another, at most this number, as one run.
+    /// They were made. The run is empty where the next act isn't a store of a splitting or of
+    /// merging.
+    pub fn take_run(&mut self, most: usize) -> StoreRun
+        ensures run { MakesRun self.old result self.new }
+        ensures most { result.count ≤ most }
+        ensures some { (g : GeometryData) → IsTransition g self.old → 0 < most
+            → IsStoring self.old.stage → 0 < result.count }
+        ensures room { result.first + result.count < 2 ^ 64 }
+    {
+        self.progress.take_run(self.task, most)
     }
 
     /// Whether the last act was a lock that wasn't free.

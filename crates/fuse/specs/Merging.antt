@@ -1,7 +1,7 @@
 -- Merging of contiguous blocks (TF-A gpt_rme, fusing of contiguous descriptors) as plain data, a
 -- load or a store at a time. What is loaded and stored is named by its number among the L1 words,
 -- which are in a row from their first place on.
-use Rattle.std.specs.Prelude.{ℕ, ◌+◌, ◌*◌, ◌^◌, ◌<◌, Bool, ◌&&◌, is_some, Option, Some, None}
+use Rattle.std.specs.Prelude.{◌≡◌, ℕ, zero, suc, ◌+◌, ◌*◌, ◌^◌, ◌<◌, Bool, ◌&&◌, is_some, Option, Some, None}
 use Rattle.gpi_values.specs.declared.gpi.Gpi.{Gpi}
 use Rattle.gpi_values.specs.declared.gpi.Gpi.TheVariants as gpi
 use Rattle.gpt_descriptors.specs.declared.size.Size.TheVariants as size
@@ -13,6 +13,8 @@ use Rattle.gpt_descriptors.specs.Fields.{equal_gpi}
 use Rattle.gpt_descriptors.specs.Places.{GeometryData, Level1, place_of}
 use Rattle.shared_words.specs.declared.act.Act.{Act}
 use Rattle.shared_words.specs.declared.act.Act.TheVariants as act
+use Rattle.shared_words.specs.declared.act.StoreRun.{StoreRun}
+use Rattle.shared_words.specs.Acts.{store_in}
 use Rattle.table_meaning.specs.declared.fusing.Fusing.{Fusing}
 use Rattle.table_meaning.specs.declared.fusing.Fusing.TheVariants.{Testing, Storing, Ended}
 use Rattle.table_meaning.specs.Fusing.{block_words, loads_of, load_at, store_at, loaded, stored, begun}
@@ -54,6 +56,20 @@ took_of d old = record {
   gpi = d.gpi;
   step = after_at d.two d.max d.gpi d.step old;
 }
+
+-- after the next n acts, which are stores
+unfoldable pub stored_by : ℕ → FuseData → FuseData
+stored_by zero d = d
+stored_by (suc n) d = took_of (stored_by n d) 0
+
+-- the stores of this run are the next acts
+abbrev pub AreNext : StoreRun → FuseData → Type 0
+AreNext run d = (k : ℕ) → k < run.count → next_of (stored_by k d) ≡ Some (store_in run k)
+
+-- the next act is a store
+abbrev pub IsStoring : Fusing → Type 0
+IsStoring (Storing z k) = Unit {0}
+IsStoring f = ⊥
 
 -- the outcome
 abbrev pub outcome_at : Fusing → Fused

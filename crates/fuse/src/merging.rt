@@ -2,12 +2,12 @@ ghost use Rattle.std.specs.Prelude.{◌≡◌, ◌+◌, ◌*◌, ◌/◌, ◌%�
 ghost use Rattle.gpt_descriptors.specs.Sizes.{space_bytes};
 ghost use Rattle.gpt_descriptors.specs.Places.{IsGeometry, l1_index_of, l1_place_of};
 ghost use Rattle.table_meaning.specs.Fusing.{block_words, loads_of, load_at, store_at};
-ghost use Rattle.fuse.specs.Merging.{next_of, took_of, outcome_of, fuse_of, has_acts};
+ghost use Rattle.fuse.specs.Merging.{next_of, took_of, stored_by, outcome_of, fuse_of, has_acts, AreNext, IsStoring};
 
 use crate::outcome::Fused;
-use crate::step::{begun, beside, loaded, stored};
+use crate::step::{begun, beside, block_words, loaded, stored, stored_to};
 use gpt_descriptors::{Geometry, Gpi, L1Entry, MaxBlock, Size, encode_l1, equal_gpi};
-use shared_words::Act;
+use shared_words::{Act, StoreRun};
 use std::marker::Model;
 use table_meaning::Fusing;
 
@@ -158,6 +158,28 @@ impl Fuse {
             Fusing::Storing(size, k) => stored(self.two, size, k),
             Fusing::Ended(size) => Fusing::Ended(size),
         };
+    }
+
+    /// The next stores, at most this number, as one run. They were made. The run is empty only where
+    /// the next act isn't a store, or where this number is 0.
+    #[tactic(auto, using(crate::proofs::RunLemmas::stored_none))]
+    pub fn take_run(&mut self, most: usize) -> StoreRun
+        ensures next { AreNext result self.old }
+        ensures after { self.new ≡ stored_by result.count self.old }
+        ensures most { result.count ≤ most }
+        ensures some { 0 < most → IsStoring self.old.step → 0 < result.count }
+        ensures room { result.first + result.count < 2 ^ 64 }
+    {
+        let Fusing::Storing(size, k) = self.step else {
+            return StoreRun::empty();
+        };
+        let run = StoreRun {
+            first: self.store_place(size, k),
+            count: most.min(block_words(self.two, size) - k),
+            value: encode_l1(L1Entry::Contig(size, self.gpi)),
+        };
+        self.step = stored_to(self.two, size, k + run.count);
+        run
     }
 
     /// What merging has done. `No` comes exactly where no contiguous size is permitted, the word

@@ -1,5 +1,6 @@
 ghost use Rattle.std.specs.Prelude.{◌≡◌, ◌+◌, ◌*◌, ◌/◌, ◌^◌, ◌<◌};
 ghost use Rattle.table_meaning.specs.Fusing.{block_words, loads_of, beside, needed_word, test_or_store, passed, failed, loaded, stored, begun};
+ghost use Rattle.fuse.specs.InnerRuns.{stored_to};
 
 use gpt_descriptors::{Gpi, L1Entry, MaxBlock, Size, encode_l1, granules_of};
 use table_meaning::Fusing;
@@ -104,15 +105,23 @@ pub fn loaded(two: usize, max: MaxBlock, gpi: Gpi, size: Size, k: usize, word: u
     }
 }
 
+/// After the first `made` stores of a block of a size.
+pub fn stored_to(two: usize, size: Size, made: usize) -> Fusing
+    requires { 16 * (16 * two) < 2 ^ 64 }
+    ensures { result ≡ stored_to two size made }
+{
+    if made == block_words(two, size) {
+        Fusing::Ended(Some(size))
+    } else {
+        Fusing::Storing(size, made)
+    }
+}
+
 /// After store `k` of a block of a size.
 pub fn stored(two: usize, size: Size, k: usize) -> Fusing
     requires room { 16 * (16 * two) < 2 ^ 64 }
     requires within { k < block_words two size }
     ensures { result ≡ stored two size k }
 {
-    if k + 1 == block_words(two, size) {
-        Fusing::Ended(Some(size))
-    } else {
-        Fusing::Storing(size, k + 1)
-    }
+    stored_to(two, size, k + 1)
 }

@@ -54,8 +54,18 @@ fn answer(words: &mut [u64], first: usize, act: Act) -> u64 {
     }
 }
 
-/// Merges around the word `OWN`, and gives the number of acts and the outcome.
-fn merge(geometry: &Geometry, words: &mut [u64]) -> Option<(u64, Fused)> {
+/// Makes the next stores of merging as a run of at most this number, and gives their number.
+fn store_run(fuse: &mut Fuse, words: &mut [u64], first: usize, most: usize) -> u64 {
+    let run = fuse.take_run(most);
+    for k in 0..run.count {
+        answer(words, first, Act::Store(run.first + k, run.value));
+    }
+    run.count as u64
+}
+
+/// Merges around the word `OWN`, by runs of at most this number of stores, and gives the number of
+/// acts and the outcome.
+fn merge(geometry: &Geometry, words: &mut [u64], most: usize) -> Option<(u64, Fused)> {
     let pa = 0x1021_5000;
     if !geometry.inside(pa) || words.len() <= OWN {
         return None;
@@ -64,11 +74,15 @@ fn merge(geometry: &Geometry, words: &mut [u64]) -> Option<(u64, Fused)> {
         return None;
     }
     let mut fuse = Fuse::new(geometry, pa, words[OWN]);
-    for made in 0..10_000u64 {
+    let mut made: u64 = 0;
+    for _ in 0..10_000 {
+        let stored = store_run(&mut fuse, words, geometry.first_l1_word(), most);
+        made = made.saturating_add(stored);
         match fuse.next() {
             Some(act) => {
                 let old = answer(words, geometry.first_l1_word(), act);
                 fuse.took(old);
+                made = made.saturating_add(1);
             }
             None => return Some((made, fuse.outcome())),
         }
@@ -115,13 +129,14 @@ fn fused_of(found: Option<Size>) -> Fused {
     }
 }
 
-/// Merges tables in which one word is replaced, and holds it against the definition. It gives the
-/// outcome and the number of acts where all agrees.
+/// Merges tables in which one word is replaced, by runs of at most this number of stores, and holds
+/// it against the definition. It gives the outcome and the number of acts where all agrees.
 fn merged(
     alloc: Global,
     max: MaxBlock,
     at: usize,
     word: u64,
+    most: usize,
 ) -> Result<Option<(Fused, u64)>, Fail> {
     let geometry = one_table(max).ok_or("refused")?;
     let mut words = apart_words(alloc, max)?;
@@ -130,7 +145,7 @@ fn merged(
     }
     let before = words.clone()?;
     let found = find_size(&geometry.setup(), before.as_slice(), OWN);
-    match merge(&geometry, words.as_mut_slice()) {
+    match merge(&geometry, words.as_mut_slice(), most) {
         Some((acts, fused)) if fused == fused_of(found) => {
             if only_block(before.as_slice(), words.as_slice(), found) {
                 Ok(Some((fused, acts)))
@@ -249,12 +264,15 @@ const MERGES: [(MaxBlock, usize, u64, Fused, u64); 16] = [
 #[test]
 fn merging_finds_the_size_of_the_definition(rt: HostRuntime) -> Result<(), Fail> {
     for (max, at, word, fused, acts) in MERGES.iter() {
-        let found = merged(rt.alloc(), *max, *at, *word)?;
-        assert_eq!(rt;
-            found,
-            Some((*fused, *acts)),
-            "of {max:?} with {word:#x} at {at}"
-        );
+        // Without runs, by runs of a few stores, and by one.
+        for most in [0, 5, usize::MAX] {
+            let found = merged(rt.alloc(), *max, *at, *word, most)?;
+            assert_eq!(rt;
+                found,
+                Some((*fused, *acts)),
+                "of {max:?} with {word:#x} at {at}"
+            );
+        }
     }
     steps_walk_the_script();
     Ok(())

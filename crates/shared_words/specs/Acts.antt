@@ -1,8 +1,9 @@
 -- What an act does to the shared words, and what it answers.
-use Rattle.std.specs.Prelude.{ℕ, List, slice_index, slice_set}
+use Rattle.std.specs.Prelude.{ℕ, zero, suc, ◌+◌, List, slice_index, slice_set}
 use Rattle.std.specs.Int.Bits.{bit_and, bit_or}
 use Rattle.shared_words.specs.declared.act.Act.{Act}
 use Rattle.shared_words.specs.declared.act.Act.TheVariants as act
+use Rattle.shared_words.specs.declared.act.StoreRun.{StoreRun}
 
 -- the place of the one word that an act is made on
 abbrev pub place_in : Act → ℕ
@@ -31,3 +32,11 @@ after_act a words = slice_set words (place_in a) (written a (slice_index words (
 
 abbrev pub answer_of : Act → List ℕ → ℕ
 answer_of a words = said a (slice_index words (place_in a))
+
+-- store k of a run, counted from 0, and the words after its first n stores
+abbrev pub store_in : StoreRun → ℕ → Act
+store_in run k = act.Store (run.first + k) run.value
+
+unfoldable pub after_stores : StoreRun → ℕ → List ℕ → List ℕ
+after_stores run zero words = words
+after_stores run (suc n) words = after_act (store_in run n) (after_stores run n words)

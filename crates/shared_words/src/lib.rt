@@ -8,7 +8,7 @@ mod plain;
 #[cfg(test)]
 mod tests;
 
-pub use act::{Act, Words};
+pub use act::{Act, StoreRun, Words};
 pub use gpt_descriptors::Geometry;
 pub use law::start_words_are_named;
 pub use plain::PlainWords;

@@ -1,9 +1,9 @@
-ghost use Rattle.std.specs.Prelude.{◌≡◌, ◌<◌, List, length, IfOk};
+ghost use Rattle.std.specs.Prelude.{◌≡◌, ◌+◌, ◌^◌, ◌<◌, ◌≤◌, List, length, replicate, IfOk};
 ghost use Rattle.gpt_descriptors.specs.Places.{l1_words, word_count};
-ghost use Rattle.shared_words.specs.Acts.{place_in, answer_of, after_act};
+ghost use Rattle.shared_words.specs.Acts.{place_in, answer_of, after_act, after_stores};
 ghost use Rattle.shared_words.specs.Start.{start_words};
 
-use crate::act::{Act, Words};
+use crate::act::{Act, StoreRun, Words};
 use gpt_descriptors::Geometry;
 use std::alloc::{AllocError, Global};
 use std::marker::Model;
@@ -56,6 +56,23 @@ impl PlainWords {
     }
 }
 
+/// Stores this value at each of these words.
+fn store_all(words: &mut [u64], value: u64)
+    ensures { words.new ≡ replicate (length words.old) value }
+{
+    words.fill(value);
+}
+
+/// Makes the stores of a run on these words.
+#[tactic(auto, using(crate::proofs::StoreLemmas::stores_filled))]
+fn store_run(words: &mut [u64], run: StoreRun)
+    requires room { run.first + run.count < 2 ^ 64 }
+    requires within { run.first + run.count ≤ length words.old }
+    ensures { words.new ≡ after_stores run run.count words.old }
+{
+    store_all(&mut words[run.first..run.first + run.count], run.value);
+}
+
 impl Words for PlainWords {
     ghost words = { λ w. w };
 
@@ -77,5 +94,9 @@ impl Words for PlainWords {
                 old
             }
         }
+    }
+
+    fn fill(&mut self, run: StoreRun) {
+        store_run(self.words.as_mut_slice(), run);
     }
 }

@@ -1,4 +1,4 @@
-ghost use Rattle.std.specs.Prelude.{◌≡◌, ◌<◌, length};
+ghost use Rattle.std.specs.Prelude.{◌≡◌, ◌+◌, ◌^◌, ◌<◌, ◌≤◌, length};
 ghost use Rattle.shared_words.specs.Acts.{place_in};
 
 use super::*;
@@ -143,5 +143,56 @@ fn acts_answer_the_word_before_them_and_change_it_alone(rt: HostRuntime) -> Resu
     assert_eq!(rt; words.len(), 34_956);
     assert_eq!(rt; words.get(1).copied(), Some(5));
     assert_eq!(rt; words.last().copied(), Some(9));
+    Ok(())
+}
+
+/// Words whose runs are made store by store.
+#[derive(Drop)]
+struct OneByOne(PlainWords);
+
+impl Words for OneByOne {
+    ghost words = { λ w. w.0 };
+
+    fn apply(&mut self, act: Act) -> u64 {
+        self.0.apply(act)
+    }
+}
+
+/// Makes a run through the trait.
+fn make_run<W: Words>(words: &mut W, run: StoreRun)
+    requires room { run.first + run.count < 2 ^ 64 }
+    requires within { run.first + run.count ≤ length (W.words words.old) }
+{
+    words.fill(run);
+}
+
+#[test]
+fn a_run_stores_at_its_places_alone(rt: HostRuntime) -> Result<(), Fail> {
+    let geometry = one_table()?;
+    let mut shared = started(rt.alloc(), &geometry)?;
+    let mut single = OneByOne(started(rt.alloc(), &geometry)?);
+
+    // Runs of no store, of one, of many, and of the last words.
+    for (first, count) in [(5, 0), (0, 1), (2188, 8192), (34_900, 56)] {
+        if shared.words().len() != 34_956 || single.0.words().len() != 34_956 {
+            return Err("other words")?;
+        }
+        let run = StoreRun {
+            first,
+            count,
+            value: 0xa5,
+        };
+        make_run(&mut shared, run);
+        make_run(&mut single, run);
+        assert!(rt;
+            shared.words() == single.0.words(),
+            "{count} from {first} on"
+        );
+    }
+    let words = shared.words();
+    assert_eq!(rt; words.iter().filter(|word| **word == 0xa5).count(), 8249);
+    for place in [1, 2187, 10_380, 34_899] {
+        assert!(rt; words.get(place).copied() != Some(0xa5), "at {place}");
+    }
     Ok(())
 }

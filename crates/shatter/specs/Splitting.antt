@@ -2,7 +2,7 @@
 -- (TF-A gpt_rme, shattering of contiguous descriptors). The 2 MB around that granule get granules
 -- words, the other words of its 32 MB contiguous entries of 2 MB, and those outside it contiguous
 -- entries of 32 MB.
-use Rattle.std.specs.Prelude.{ℕ, ◌+◌, ◌*◌, ◌/◌, ◌==◌, nat_lt, List, map, Option, Some, None, if◌then◌else◌}
+use Rattle.std.specs.Prelude.{◌≡◌, ℕ, zero, suc, ◌+◌, ◌*◌, ◌/◌, ◌<◌, ◌==◌, nat_lt, List, map, Option, Some, None, if◌then◌else◌}
 use Rattle.std.specs.List.{range_with_len}
 use Rattle.gpi_values.specs.declared.gpi.Gpi.{Gpi}
 use Rattle.gpt_descriptors.specs.declared.size.Size.TheVariants as size
@@ -12,6 +12,8 @@ use Rattle.gpt_descriptors.specs.Entries.{l1_word}
 use Rattle.gpt_descriptors.specs.Fields.{granules_of}
 use Rattle.shared_words.specs.declared.act.Act.{Act}
 use Rattle.shared_words.specs.declared.act.Act.TheVariants as act
+use Rattle.shared_words.specs.declared.act.StoreRun.{StoreRun}
+use Rattle.shared_words.specs.Acts.{store_in}
 
 -- word j of the block, counted from its first one, after the splitting around word own; 2 MB have
 -- `two` words
@@ -66,3 +68,12 @@ advanced d = record {
   words = d.words;
   two = d.two;
 }
+
+-- after the next n stores
+unfoldable pub advanced_by : ℕ → SplittingData → SplittingData
+advanced_by zero d = d
+advanced_by (suc n) d = advanced (advanced_by n d)
+
+-- the stores of this run are the next ones
+abbrev pub AreNext : StoreRun → SplittingData → Type 0
+AreNext run d = (k : ℕ) → k < run.count → next_store (advanced_by k d) ≡ Some (store_in run k)

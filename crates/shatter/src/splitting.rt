@@ -1,8 +1,8 @@
 ghost use Rattle.std.specs.Prelude.{◌≡◌, ◌+◌, ◌-◌, ◌*◌, ◌/◌, ◌^◌, ◌<◌, ◌≤◌, ◌==◌, ℕ, not, nat_lt, IsSome};
-ghost use Rattle.shatter.specs.Splitting.{split_word, started, next_store, advanced};
+ghost use Rattle.shatter.specs.Splitting.{split_word, started, next_store, advanced, advanced_by, AreNext};
 
 use gpt_descriptors::{Gpi, L1Entry, Size, encode_l1, granules_of};
-use shared_words::Act;
+use shared_words::{Act, StoreRun};
 use std::marker::Model;
 
 /// The splitting of a contiguous block, store by store, whatever number of words the block and 2 MB
@@ -62,6 +62,23 @@ fn is_in_block(j: usize, start: usize, n: usize) -> bool
     start <= j && j - start < n
 }
 
+/// The number of words from word `j` on that are all in the `n` words from this start on, the block
+/// of another word, or all outside them. It isn't above that number.
+fn alike(j: usize, start: usize, n: usize) -> usize
+    requires { 0 < n }
+    ensures value { (own k : ℕ) → start ≡ own / n * n → k < result
+        → ((j + k) / n == own / n) ≡ (j / n == own / n) }
+    ensures some { 0 < result }
+{
+    if j < start {
+        start - j
+    } else if j - start < n {
+        n - (j - start)
+    } else {
+        usize::MAX
+    }
+}
+
 impl Splitting {
     /// The splitting of a block of this GPI before its first store. `first` is the place of the
     /// block's first word, and `own` the word of the granule that is to be changed, counted from
@@ -116,6 +133,39 @@ impl Splitting {
         ensures { self.new ≡ advanced self.old }
     {
         self.made += 1;
+    }
+
+    /// The number of next stores of one value, at most this number.
+    fn run_length(&self, most: usize) -> usize
+        ensures stores { (k : ℕ) → k < result
+            → split_word self.now.two self.now.own self.now.gpi (self.now.made + k)
+            ≡ split_word self.now.two self.now.own self.now.gpi self.now.made }
+        ensures within { self.now.made + result ≤ self.now.words }
+        ensures most { result ≤ most }
+        ensures some { 0 < most → self.now.made < self.now.words → 0 < result }
+    {
+        let two = alike(self.made, self.two_start, self.two);
+        let thirty_two = alike(self.made, self.thirty_two_start, self.thirty_two);
+        let left = self.words - self.made;
+        most.min(left).min(two).min(thirty_two)
+    }
+
+    /// The next stores of one value, at most this number, as one run. They were made. The run is
+    /// empty only after the last store, or where this number is 0.
+    pub fn take_run(&mut self, most: usize) -> StoreRun
+        ensures next { AreNext result self.old }
+        ensures after { self.new ≡ advanced_by result.count self.old }
+        ensures most { result.count ≤ most }
+        ensures some { 0 < most → IsSome (next_store self.old) → 0 < result.count }
+        ensures room { result.first + result.count < 2 ^ 64 }
+    {
+        let run = StoreRun {
+            first: self.first + self.made,
+            count: self.run_length(most),
+            value: self.word(),
+        };
+        self.made += run.count;
+        run
     }
 
     /// The GPI of the block.

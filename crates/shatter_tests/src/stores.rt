@@ -34,6 +34,26 @@ fn made(alloc: Global, splitting: Splitting) -> Result<Vec<Act>, AllocError> {
     Ok(acts)
 }
 
+/// The stores of a splitting, by runs of at most this number, and the number of runs.
+fn by_runs(
+    alloc: Global,
+    splitting: Splitting,
+    most: usize,
+) -> Result<(Vec<Act>, usize), AllocError> {
+    let mut splitting = splitting;
+    let mut acts = Vec::new(alloc);
+    for number in 0..10_000 {
+        let run = splitting.take_run(most);
+        if run.count == 0 {
+            return Ok((acts, number));
+        }
+        for k in 0..run.count {
+            acts.push(Act::Store(run.first + k, run.value))?;
+        }
+    }
+    Ok((acts, 10_000))
+}
+
 /// Whether the stores of a block of realm at place 1000 are those of the definition, and none is
 /// left.
 fn agree(alloc: Global, words: usize, two: usize, own: usize) -> Result<bool, AllocError> {
@@ -54,6 +74,31 @@ fn stores_are_those_of_the_definition(rt: HostRuntime) -> Result<(), Fail> {
     }
     splitting_keeps_the_map();
     stores_are_in_order();
+    Ok(())
+}
+
+#[test]
+fn runs_have_the_same_stores(rt: HostRuntime) -> Result<(), Fail> {
+    // The runs of each block above: by granules, contiguous of 2 MB, and contiguous of 32 MB.
+    let wanted = [1, 1, 3, 2, 5, 3, 1, 5];
+    for ((words, two, own), number) in BLOCKS.iter().zip(wanted.iter()) {
+        if *own >= *words || *words > 10_000 || *two == 0 || *two > 10_000 {
+            return Err("another block")?;
+        }
+        let splitting = Splitting::new(1000, *own, Gpi::Realm, *words, *two);
+        let single = made(rt.alloc(), splitting)?;
+        let (long, runs) = by_runs(rt.alloc(), splitting, usize::MAX)?;
+        let (short, _) = by_runs(rt.alloc(), splitting, 7)?;
+        assert_eq!(rt; runs, *number, "of {words} around {own}");
+        assert!(rt;
+            long.as_slice() == single.as_slice(),
+            "of {words} around {own}"
+        );
+        assert!(rt;
+            short.as_slice() == single.as_slice(),
+            "of {words} around {own}"
+        );
+    }
     Ok(())
 }
 
