@@ -1,5 +1,5 @@
 -- Lists: one item is set, two stand in a row, one stands alone.
-use Rattle.std.proofs.Common.{◌≡◌, ◌≢◌, ℕ, zero, suc, ◌+◌, ◌<◌, ◌++◌, ◌∷◌, [], ◌⊎◌, length, List, Bool, cond, Some, get_or, set, refl, sym, ap, ◌∙◌, subst, arith, inl, inr}
+use Rattle.std.proofs.Common.{◌≡◌, ◌≢◌, ℕ, zero, suc, ◌+◌, ◌++◌, ◌∷◌, [], ◌⊎◌, length, List, Bool, cond, Some, get_or, set, refl, sym, ap, ◌∙◌, subst, arith, inl, inr}
 use Rattle.std.specs.Prelude.{slice_get}
 use Rattle.std.specs.List.{All, count_by}
 use Rattle.std.proofs.lemmas.List.Elements.{All-nil, All-cons}
