@@ -1,6 +1,7 @@
 -- Processors after an act are processors, one with an access left has a next act, and acts keep to the words of the geometry.
 use Rattle.std.proofs.Common.{◌≡◌, ℕ, zero, suc, ◌+◌, ◌/◌, ◌≤◌, ◌<◌, ◌⊎◌, ◌++◌, ◌∷◌, [], List, true, not, Some, None, Option, length, drop, refl, sym, ap, ◌∙◌, subst, arith, inl, inr, length-append, length-drop}
 use Rattle.std.specs.Prelude.{slice_get, is_some}
+use Rattle.std.specs.List.{All}
 use Rattle.std.specs.Option.{option_map}
 use Rattle.std.proofs.lemmas.Option.{slice_get_within, get_or_from_slice_get}
 use Rattle.gpi_values.specs.declared.gpi.Space.{Space}
@@ -25,7 +26,7 @@ use Rattle.invalidate.specs.Generations.{gen_load_of}
 use Rattle.processor.specs.declared.walk.Walk.{Walk}
 use Rattle.processor.specs.Accesses.{walk_of}
 use Rattle.processor.specs.InnerProgress.{act_at, after_load, after_word, after_at, answer_at}
-use Rattle.processor.specs.InnerCpus.{CpuData, IsCpu, IsAt, HasActs, task_of, idle_answer, answered_first, idle_answers, has_ended, next_at, next_of, after_answer, ends_or_goes, took_at, took_of, duty_at}
+use Rattle.processor.specs.InnerCpus.{CpuData, IsCpu, IsAt, HasActs, task_of, idle_answer, answered_first, idle_answers, fresh, has_ended, next_at, next_of, after_answer, ends_or_goes, took_at, took_of, duty_at}
 
 -- ---- the answers of accesses without acts
 
@@ -57,6 +58,17 @@ get_drop (t ∷ tasks) (suc n) i = get_drop tasks n i ∙ ap (slice_get (t ∷ t
 starts_at : (o : Option Task) → IsAt o stage.Starting
 starts_at None = refl
 starts_at (Some t) = tt
+
+-- before its first act
+pub fresh_is_cpu : (g : GeometryData) (p : ℕ) (tasks : List Task) → IsGeometry g → p < g.cpus → All (IsAccess g) tasks → IsCpu (fresh g p tasks)
+fresh_is_cpu g p tasks geometry number accesses = record {
+  geometry = geometry;
+  number = number;
+  accesses = accesses;
+  answered = idle_few g tasks;
+  acts = idle_then_acts g tasks;
+  stage = starts_at (task_of (fresh g p tasks));
+}
 
 answer_is_cpu : (q : CpuData) (t : Task) (answer : Answer) → IsCpu q → task_of q ≡ Some t → IsCpu (after_answer q answer)
 answer_is_cpu q t answer is under_way =
