@@ -1,6 +1,7 @@
 -- Processors after an act are processors, one with an access left has a next act, and acts keep to the words of the geometry.
 use Rattle.std.proofs.Common.{◌≡◌, ℕ, zero, suc, ◌+◌, ◌/◌, ◌≤◌, ◌<◌, ◌⊎◌, ◌++◌, ◌∷◌, [], List, true, not, Some, None, Option, length, drop, refl, sym, ap, ◌∙◌, subst, arith, inl, inr, length-append, length-drop}
 use Rattle.std.specs.Prelude.{slice_get, is_some}
+use Rattle.std.specs.List.{All}
 use Rattle.std.specs.Option.{option_map}
 use Rattle.std.proofs.lemmas.Option.{slice_get_within, get_or_from_slice_get}
 use Rattle.gpi_values.specs.declared.gpi.Space.{Space}
@@ -9,15 +10,23 @@ use Rattle.gpt_descriptors.specs.Places.{GeometryData, IsGeometry, WordName, IsW
 use Rattle.gpt_descriptors.proofs.PlaceLemmas.{generation_named, index_within, place_below, unblocked_index}
 use Rattle.shared_words.specs.declared.act.Act.{Act}
 use Rattle.shared_words.specs.declared.act.Act.TheVariants as act
-use Rattle.shared_words.specs.Acts.{place_in}
+use Rattle.shared_words.specs.Acts.{place_in, written}
 use Rattle.history.specs.declared.call.Task.{Task}
 use Rattle.history.specs.declared.call.Task.TheVariants as task
 use Rattle.history.specs.declared.call.Answer.{Answer}
 use Rattle.processor.specs.InnerProgress.{Stage}
 use Rattle.processor.specs.InnerProgress as stage
 use Rattle.processor.specs.Accesses.{IsAccess, block_answer}
-use Rattle.processor.specs.InnerProgress.{act_at, after_at, answer_at}
-use Rattle.processor.specs.InnerCpus.{CpuData, IsCpu, IsAt, HasActs, task_of, idle_answer, answered_first, idle_answers, has_ended, next_at, next_of, after_answer, ends_or_goes, took_at, took_of}
+use Rattle.gpt_descriptors.specs.declared.size.Size.{Size}
+use Rattle.gpt_descriptors.specs.declared.size.Size.TheVariants as size
+use Rattle.gpt_descriptors.specs.declared.size.Generations.{Generations}
+use Rattle.gpt_descriptors.specs.Sizes.{with_generation}
+use Rattle.invalidate.specs.Duty.{on_act, off_act}
+use Rattle.invalidate.specs.Generations.{gen_load_of}
+use Rattle.processor.specs.declared.walk.Walk.{Walk}
+use Rattle.processor.specs.Accesses.{walk_of}
+use Rattle.processor.specs.InnerProgress.{act_at, after_load, after_word, after_at, answer_at}
+use Rattle.processor.specs.InnerCpus.{CpuData, IsCpu, IsAt, HasActs, task_of, idle_answer, answered_first, idle_answers, fresh, has_ended, next_at, next_of, after_answer, ends_or_goes, took_at, took_of, duty_at}
 
 -- ---- the answers of accesses without acts
 
@@ -49,6 +58,17 @@ get_drop (t ∷ tasks) (suc n) i = get_drop tasks n i ∙ ap (slice_get (t ∷ t
 starts_at : (o : Option Task) → IsAt o stage.Starting
 starts_at None = refl
 starts_at (Some t) = tt
+
+-- before its first act
+pub fresh_is_cpu : (g : GeometryData) (p : ℕ) (tasks : List Task) → IsGeometry g → p < g.cpus → All (IsAccess g) tasks → IsCpu (fresh g p tasks)
+fresh_is_cpu g p tasks geometry number accesses = record {
+  geometry = geometry;
+  number = number;
+  accesses = accesses;
+  answered = idle_few g tasks;
+  acts = idle_then_acts g tasks;
+  stage = starts_at (task_of (fresh g p tasks));
+}
 
 answer_is_cpu : (q : CpuData) (t : Task) (answer : Answer) → IsCpu q → task_of q ≡ Some t → IsCpu (after_answer q answer)
 answer_is_cpu q t answer is under_way =
@@ -220,3 +240,34 @@ next_at_writes q (Some task.Unknown) next e = absurd cc
 -- and is a load or on the own duty word
 pub next_writes : (q : CpuData) (next : Act) → IsCpu q → next_of q ≡ Some next → (next ≡ act.Load (place_in next)) ⊎ (place_in next ≡ place_of q.geometry (Duty q.number))
 next_writes q next is e = next_at_writes q (task_of q) next e
+
+-- ---- the duty word
+
+loaded_duty : (z : Size) (k : Generations) → duty_at (after_load z k) ≡ 1
+loaded_duty size.Two k = refl
+loaded_duty size.ThirtyTwo k = refl
+loaded_duty size.FiveTwelve k = refl
+
+word_duty : (k : Generations) (o : Option Walk) → duty_at (after_word k o) ≡ 1
+word_duty k None = refl
+word_duty k (Some w) = refl
+
+look_duty : (q : CpuData) (p pa : ℕ) (space : Space) (s : Stage) (next : Act) (old : ℕ) → act_at q.geometry p pa s ≡ Some next
+    → written next (duty_at s) ≡ duty_at (ends_or_goes q (answer_at space s) (after_at q.geometry pa s old)).stage
+look_duty q p pa space stage.Starting next old e = let same : on_act q.geometry p ≡ next = cc in rw (← same) refl
+look_duty q p pa space (stage.Loading z k) next old e = let same : gen_load_of q.geometry z pa ≡ next = cc in rw (← same) (sym (loaded_duty z (with_generation z old k)))
+look_duty q p pa space (stage.Walking k) next old e =
+    let load = some_mapped act.Load (l1_place_of q.geometry pa) next e in rw (← load.2) (sym (word_duty k (walk_of q.geometry pa k old)))
+look_duty q p pa space (stage.Closing w) next old e = let same : gen_load_of q.geometry (tag_size_of w.reach) pa ≡ next = cc in rw (← same) refl
+look_duty q p pa space (stage.Leaving w hi) next old e = let same : off_act q.geometry p ≡ next = cc in rw (← same) refl
+
+next_at_duty : (q : CpuData) (o : Option Task) (next : Act) (old : ℕ) → next_at q o ≡ Some next → written next (duty_at q.stage) ≡ duty_at (took_at q o old).stage
+next_at_duty q None next old e = absurd cc
+next_at_duty q (Some (task.Look pa space)) next old e = look_duty q q.number pa space q.stage next old e
+next_at_duty q (Some (task.Delegate pa source)) next old e = absurd cc
+next_at_duty q (Some (task.Undelegate pa source)) next old e = absurd cc
+next_at_duty q (Some task.Unknown) next old e = absurd cc
+
+-- an act leaves it as it is after the act
+pub next_duty : (q : CpuData) (next : Act) (old : ℕ) → next_of q ≡ Some next → written next (duty_at q.stage) ≡ duty_at (took_of q old).stage
+next_duty q next old e = next_at_duty q (task_of q) next old e

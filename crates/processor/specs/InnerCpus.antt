@@ -103,6 +103,11 @@ took_at q t old = q
 abbrev pub took_of : CpuData → ℕ → CpuData
 took_of q old = took_at q (task_of q) old
 
+-- its duty word: 1 from the first act of an access to the last one
+abbrev pub duty_at : Stage → ℕ
+duty_at stage.Starting = 0
+duty_at s = 1
+
 -- ---- which processors there are
 
 -- a word that is loaded as an L1 word is a descriptor

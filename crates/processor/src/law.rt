@@ -1,12 +1,14 @@
 ghost use Rattle.std.specs.Prelude.{◌≡◌, ◌⊎◌, ◌≤◌, ◌<◌, ℕ, List, [], ◌∷◌, ◌++◌, Some, true, length};
 ghost use Rattle.shared_words.specs.declared.act.Act.{Act};
-ghost use Rattle.shared_words.specs.Acts.{place_in};
+ghost use Rattle.shared_words.specs.Acts.{place_in, written};
 ghost use Rattle.history.specs.declared.call.Task.{Task};
 ghost use Rattle.history.specs.declared.call.Answer.{Answer};
 ghost use Rattle.history.specs.Events.{CallEvent};
-ghost use Rattle.gpt_descriptors.specs.Places.{GeometryData, WordName, IsWordName, Duty, place_of, word_count};
+ghost use Rattle.gpt_descriptors.specs.Places.{GeometryData, IsGeometry, WordName, IsWordName, Duty, place_of, word_count};
+ghost use Rattle.std.specs.List.{All};
+ghost use Rattle.processor.specs.Accesses.{IsAccess};
 ghost use Rattle.processor.specs.Script.{IsCall, IsUnderWay, Follows};
-ghost use Rattle.processor.specs.InnerCpus.{CpuData, IsCpu, IsReadable, fresh, task_of, has_ended, next_of, took_of};
+ghost use Rattle.processor.specs.InnerCpus.{CpuData, IsCpu, IsReadable, fresh, task_of, has_ended, next_of, took_of, duty_at};
 ghost use Rattle.processor.specs.InnerEntries.{made_at, own_entries};
 ghost use Rattle.processor.specs.InnerScript.{HasWalked};
 
@@ -50,8 +52,10 @@ pub fn accesses_make_seven_acts()
 
 /// What is known of a processor by how it was made alone, whatever its acts are answered: an act
 /// keeps its geometry, its number and its tasks; its next act is made on one of the shared words,
-/// and is a load or on its own duty word.
+/// and is a load or on its own duty word, which is 1 from the first act of an access to the last.
 pub fn processors_keep_to_their_words()
+    ensures start { (g : GeometryData) (p : ℕ) (tasks : List Task) → IsGeometry g → p < g.cpus
+        → All (IsAccess g) tasks → IsCpu (fresh g p tasks) }
     ensures kept { (q : CpuData) (old : ℕ) → IsCpu q → IsCpu (took_of q old) }
     ensures same { (q : CpuData) (old : ℕ) → ((took_of q old).geometry ≡ q.geometry)
         × ((took_of q old).number ≡ q.number) × ((took_of q old).tasks ≡ q.tasks) }
@@ -62,4 +66,6 @@ pub fn processors_keep_to_their_words()
     ensures writes { (q : CpuData) (next : Act) → IsCpu q → next_of q ≡ Some next
         → (next ≡ Act.Load (place_in next))
         ⊎ (place_in next ≡ place_of q.geometry (Duty q.number)) }
+    ensures duty { (q : CpuData) (next : Act) (old : ℕ) → next_of q ≡ Some next
+        → written next (duty_at q.stage) ≡ duty_at (took_of q old).stage }
 {}
