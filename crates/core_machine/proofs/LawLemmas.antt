@@ -1,5 +1,5 @@
 -- The law of one act: by cases on the caller, its task under way and its stage.
-use Rattle.std.proofs.Common.{◌≡◌, ℕ, ◌+◌, ◌*◌, ◌%◌, ◌<◌, ◌++◌, ◌∷◌, [], Option, Some, None, length, refl, ap, ◌∙◌, subst, inl, inr, sym, Bool, arith, false, ◌/◌, ◌⊎◌, true}
+use Rattle.std.proofs.Common.{◌≡◌, ℕ, ◌+◌, ◌*◌, ◌%◌, ◌<◌, ◌++◌, ◌∷◌, [], Option, Some, None, length, refl, ap, ◌∙◌, subst, inl, inr, sym, arith, false, ◌/◌, ◌⊎◌}
 use Rattle.std.specs.Prelude.{slice_get, option_and_then}
 use Rattle.std.proofs.lemmas.Bool.{cases_Bool, ltb-true}
 use Rattle.core_machine.proofs.Names.{GeometryData, l0_words, l1_words, l1_place_of, Level1, WordName, Generation, IsGeometry, Lock, word_count, gen_place_of, IsWordName, place_of, Act, place_in, answer_of, take_act, release_act, lock_number, Task, Stage, address_of, generation_in, idle_answer, AgentData, IsStage, HasActs, task_of, next_of, took_at, Caller, caller_next, IsMade, HoldsIn, Scene, lock_bit_of, granule_of_task, made_at, Gpi, Generations, l1_index, size_bytes, words_of, Fusing, Testing, Storing, Ended, Size, Answer}
@@ -58,32 +58,27 @@ took_made g a next old made e = (
 
 -- ---- the word of an act
 
-abbrev pub is_plain : Act → Bool
-is_plain (act.Load place) = true
-is_plain (act.Store place value) = true
-is_plain t = false
-
--- the act takes or releases its lock, or it loads or stores a word that is no lock
+-- the act takes or releases its lock, or it is one on a word that is no lock
 pub record IsOn (g : GeometryData) (t : Task) (st : Stage) (next : Act) : Type 0 where
   pub name : WordName
   pub named : IsWordName g name
   pub place : place_in next ≡ place_of g name
-  pub how : ((st ≡ stage.Locking) × (next ≡ take_act (lock_bit_of g t))) ⊎ (((given : Answer) × (st ≡ stage.Releasing given) × (next ≡ release_act (lock_bit_of g t))) ⊎ ((is_lock (Some name) ≡ false) × (is_plain next ≡ true)))
+  pub how : ((st ≡ stage.Locking) × (next ≡ take_act (lock_bit_of g t))) ⊎ (((given : Answer) × (st ≡ stage.Releasing given) × (next ≡ release_act (lock_bit_of g t))) ⊎ (is_lock (Some name) ≡ false))
 
 lock_row : (g : GeometryData) (t : Task) → IsGeometry g → idle_answer g t ≡ None → lock_number g.setup (address_of t) / 64 < 2
 lock_row g t geometry acts = omega (arith, lock_low g.setup (address_of t) geometry.setup (acts_inside g t acts))
 
-on_level1 : (g : GeometryData) (t : Task) (st : Stage) (place : ℕ) (next : Act) → IsGeometry g → l1_place_of g (address_of t) ≡ Some place → place_in next ≡ place → is_plain next ≡ true → IsOn g t st next
-on_level1 g t st place next geometry there here plain =
+on_level1 : (g : GeometryData) (t : Task) (st : Stage) (place : ℕ) (next : Act) → IsGeometry g → l1_place_of g (address_of t) ≡ Some place → place_in next ≡ place → IsOn g t st next
+on_level1 g t st place next geometry there here =
     let at = index_at g (address_of t) place there in
-    record { name = Level1 at.0; named = index_within g (address_of t) at.0 geometry at.1; place = here ∙ at.2; how = inr (inr (refl, plain)) }
+    record { name = Level1 at.0; named = index_within g (address_of t) at.0 geometry at.1; place = here ∙ at.2; how = inr (inr refl) }
 
-on_generation : (g : GeometryData) (t : Task) (st : Stage) (z : Size) (next : Act) → idle_answer g t ≡ None → place_in next ≡ gen_place_of g z (address_of t) → is_plain next ≡ true → IsOn g t st next
-on_generation g t st z next acts here plain =
-    record { name = Generation z (address_of t / size_bytes z); named = generation_named g z (address_of t) (acts_inside g t acts); place = here; how = inr (inr (refl, plain)) }
+on_generation : (g : GeometryData) (t : Task) (st : Stage) (z : Size) (next : Act) → idle_answer g t ≡ None → place_in next ≡ gen_place_of g z (address_of t) → IsOn g t st next
+on_generation g t st z next acts here =
+    record { name = Generation z (address_of t / size_bytes z); named = generation_named g z (address_of t) (acts_inside g t acts); place = here; how = inr (inr refl) }
 
-on_index : (g : GeometryData) (t : Task) (st : Stage) (i : ℕ) (next : Act) → i < l1_words g → place_in next ≡ place_of g (Level1 i) → is_plain next ≡ true → IsOn g t st next
-on_index g t st i next within here plain = record { name = Level1 i; named = within; place = here; how = inr (inr (refl, plain)) }
+on_index : (g : GeometryData) (t : Task) (st : Stage) (i : ℕ) (next : Act) → i < l1_words g → place_in next ≡ place_of g (Level1 i) → IsOn g t st next
+on_index g t st i next within here = record { name = Level1 i; named = within; place = here; how = inr (inr refl) }
 
 merging_word : (g : GeometryData) (t : Task) (first own two : ℕ) (max : MaxBlock) (v : Gpi) (step : Fusing) (k : Generations) (next : Act) → IsGeometry g → IsMergingOf g (address_of t) (record { first = first; own = own; two = two; max = max; gpi = v; step = step })
     → fuse.act_at first own two v step ≡ Some next → IsOn g t (stage.Merging (record { first = first; own = own; two = two; max = max; gpi = v; step = step }) k) next
@@ -93,14 +88,14 @@ merging_word g t first own two max v (Testing z j) k next geometry is e =
     let at = ap (l1_index g.setup (l0_words g)) (sym (word_by_granule g.setup (address_of t))) ∙ is.there in
     let load : act.Load (first + load_at two own z j) ≡ next = cc in
     let place : first + load_at two own z j ≡ place_of g (Level1 (load_at (words_of g.setup size.Two) is.index z j)) = rw (is.first, is.two, is.own) (omega arith) in
-    on_index g t _ (load_at (words_of g.setup size.Two) is.index z j) next (index_below g _ _ geometry (load_index g.setup (l0_words g) z w is.index j at low)) (ap place_in (sym load) ∙ place) (ap is_plain (sym load))
+    on_index g t _ (load_at (words_of g.setup size.Two) is.index z j) next (index_below g _ _ geometry (load_index g.setup (l0_words g) z w is.index j at low)) (ap place_in (sym load) ∙ place)
 merging_word g t first own two max v (Storing z j) k next geometry is e =
     let w : ℕ = granule_of_task g t / 16 in
     let low : j < words_of g.setup z = subst (λ (n : ℕ). j < n) (sym (block_words_is g.setup z)) (subst (λ (n : ℕ). j < block_words n z) is.two is.counted) in
     let at = ap (l1_index g.setup (l0_words g)) (sym (word_by_granule g.setup (address_of t))) ∙ is.there in
     let store : act.Store (first + store_at two own z j) (l1_word (l1.Contig z v)) ≡ next = cc in
     let place : first + store_at two own z j ≡ place_of g (Level1 (store_at (words_of g.setup size.Two) is.index z j)) = rw (is.first, is.two, is.own) (omega arith) in
-    on_index g t _ (store_at (words_of g.setup size.Two) is.index z j) next (index_below g _ _ geometry (store_index g.setup (l0_words g) z w is.index j at low)) (ap place_in (sym store) ∙ place) (ap is_plain (sym store))
+    on_index g t _ (store_at (words_of g.setup size.Two) is.index z j) next (index_below g _ _ geometry (store_index g.setup (l0_words g) z w is.index j at low)) (ap place_in (sym store) ∙ place)
 merging_word g t first own two max v (Ended o) k next geometry is e = absurd cc
 
 pub act_word : (g : GeometryData) (t : Task) (st : Stage) (next : Act) → IsGeometry g → idle_answer g t ≡ None → IsStage g st (Some t) → act_at g st t ≡ Some next → IsOn g t st next
@@ -112,16 +107,16 @@ act_word g t (stage.Releasing o) next geometry acts fits e =
     record { name = Lock (lock_number g.setup (address_of t) / 64); named = lock_row g t geometry acts; place = ap place_in same; how = inr (inl (o, refl, same)) }
 act_word g t stage.Looking next geometry acts fits e =
     let load = some_mapped act.Load (l1_place_of g (address_of t)) next e in
-    on_level1 g t stage.Looking load.0 next geometry load.1 (ap place_in (sym load.2)) (ap is_plain (sym load.2))
+    on_level1 g t stage.Looking load.0 next geometry load.1 (ap place_in (sym load.2))
 act_word g t (stage.Reading z k) next geometry acts fits e =
     let same : next ≡ gen_load_of g z (address_of t) = cc in
-    on_generation g t (stage.Reading z k) z next acts (ap place_in same) (ap is_plain same)
+    on_generation g t (stage.Reading z k) z next acts (ap place_in same)
 act_word g t (stage.Changing ch k) next geometry acts fits e =
     let store = some_mapped (λ place. act.Store place (changed_word g t ch k.word)) (l1_place_of g (address_of t)) next e in
-    on_level1 g t (stage.Changing ch k) store.0 next geometry store.1 (ap place_in (sym store.2)) (ap is_plain (sym store.2))
+    on_level1 g t (stage.Changing ch k) store.0 next geometry store.1 (ap place_in (sym store.2))
 act_word g t (stage.Raising ch z k) next geometry acts fits e =
     let same : next ≡ gen_raise_of g z (address_of t) (generation_in z k.generations) = cc in
-    on_generation g t (stage.Raising ch z k) z next acts (ap place_in same) (ap is_plain same)
+    on_generation g t (stage.Raising ch z k) z next acts (ap place_in same)
 act_word g t (stage.Splitting z d k) next geometry acts fits e =
     let is : IsSplittingOf g (address_of t) z d = fits.0 in
     let n : ℕ = words_of g.setup z in
@@ -131,7 +126,7 @@ act_word g t (stage.Splitting z d k) next geometry acts fits e =
     let own = ap (l1_index g.setup (l0_words g)) (sym (word_by_granule g.setup (address_of t))) ∙ at.1 in
     let place = split_place g (address_of t) z d is at.0 w at.2 own (ap (λ (x : ℕ). x % n) (sym (word_by_granule g.setup (address_of t)))) in
     let store : store_of d d.made ≡ next = let both : Some (store_of d d.made) ≡ Some next = rw is.low at e in cc in
-    on_index g t (stage.Splitting z d k) (at.0 / n * n + d.made) next (index_below g _ _ geometry (block_index g.setup (l0_words g) z w at.0 d.made own low)) (ap place_in (sym store) ∙ place) (ap is_plain (sym store))
+    on_index g t (stage.Splitting z d k) (at.0 / n * n + d.made) next (index_below g _ _ geometry (block_index g.setup (l0_words g) z w at.0 d.made own low)) (ap place_in (sym store) ∙ place)
 act_word g t (stage.Merging f k) next geometry acts fits e = merging_word g t f.first f.own f.two f.max f.gpi f.step k next geometry fits e
 
 -- ---- any act of an agent

@@ -18,7 +18,10 @@ use Rattle.bit_locks.specs.Locks.{bit_with}
 use Rattle.delegate_ops.specs.InnerAgents.{took_of}
 use Rattle.delegate_ops.proofs.ScriptLemmas.{fresh_walked, step_walks}
 use Rattle.core_machine.proofs.ListLemmas.{one, count_cons, get_set, get_set_other}
-use Rattle.core_machine.proofs.LawLemmas.{agent_acting, one_act, is_plain, act_word}
+use Rattle.shared_words.specs.Acts.{written}
+use Rattle.gpt_descriptors.specs.Places.{Lock}
+use Rattle.gpt_descriptors.proofs.PlaceLemmas.{place_distinct}
+use Rattle.core_machine.proofs.LawLemmas.{agent_acting, one_act, act_word}
 use Rattle.core_machine.proofs.MachineLemmas.{Along, Always, act_has, along}
 use Rattle.core_machine.proofs.LockLemmas.{holder_bit, take_free, take_held, release_held}
 use Rattle.core_machine.proofs.ActLemmas.{lock_of_task, low_of}
@@ -267,15 +270,18 @@ take_counts words n m within =
 release_counts : (words : List ℕ) (n m : ℕ) → n / 64 < length words → lock_bit words n ≡ 1 → CountsLock words (release_act (bit_with n)) m
 release_counts words n m within set_bit = rw (released_by n m) (release_held words n m within set_bit)
 
-plain_left : (g : GeometryData) (words : List ℕ) (n : WordName) (p v m : ℕ) → IsWordName g n → is_lock (Some n) ≡ false → p ≡ place_of g n → m < 128 → lock_bit (set words p v) m + 0 ≡ lock_bit words m + 0
-plain_left g words n p v m named unlike at low =
-    ap (λ (k : ℕ). k + 0) (ap (λ (q : ℕ). lock_bit (set words q v) m) at ∙ locks_left (writes_one g words n v named) unlike m low)
-
--- a load or a store of a word that is no lock word
-plain_counts : (g : GeometryData) (words : List ℕ) (n : WordName) (next : Act) (m : ℕ) → IsWordName g n → is_lock (Some n) ≡ false → place_in next ≡ place_of g n → is_plain next ≡ true → m < 128 → CountsLock words next m
-plain_counts g words n (act.Load place) m named unlike at plain low = plain_left g words n place (slice_index words place) m named unlike at low
-plain_counts g words n (act.Store place value) m named unlike at plain low = plain_left g words n place value m named unlike at low
-plain_counts g words n next m named unlike at plain low = absurd cc
+-- any act on a word that is no lock
+plain_counts : (g : GeometryData) (words : List ℕ) (n : WordName) (next : Act) (m : ℕ) → IsWordName g n → is_lock (Some n) ≡ false → place_in next ≡ place_of g n → m < 128 → CountsLock words next m
+plain_counts g words n next m named unlike at low =
+    let apart : place_in next ≢ m / 64 = λ same. absurd (let lock : n ≡ Lock (m / 64) = place_distinct g n (Lock (m / 64)) named (omega (arith, low)) (sym at ∙ same) in let both : false ≡ true = sym unlike ∙ ap (λ (x : WordName). is_lock (Some x)) lock in cc) in
+    let v : ℕ = written next (slice_index words (place_in next)) in
+    by_kind next apart (ap (λ (q : ℕ). lock_bit (set words q v) m) at ∙ locks_left (writes_one g words n v named) unlike m low)
+  where
+    by_kind : (next : Act) → place_in next ≢ m / 64 → lock_bit (after_act next words) m ≡ lock_bit words m → CountsLock words next m
+    by_kind (act.Load place) apart same = ap (λ (k : ℕ). k + 0) same
+    by_kind (act.Store place value) apart same = ap (λ (k : ℕ). k + 0) same
+    by_kind (act.Or place value) apart same = rw (ne_eqb place (m / 64) apart) (ap (λ (k : ℕ). k + 0) same)
+    by_kind (act.And place value) apart same = rw (ne_eqb place (m / 64) apart) (ap (λ (k : ℕ). k + 0) same)
 
 caller_counts : (g : GeometryData) (s : Scene) (c : ℕ) (x : Caller) (t : Act) (m : ℕ) → HoldsIn g s → slice_get s.callers c ≡ Some x → caller_next x ≡ Some t → m < 128 → CountsLock s.words t m
 caller_counts g s c (caller.Cpu looks) t m stands at next low = absurd cc
@@ -292,7 +298,7 @@ caller_counts g s c (caller.Agent a) t m stands at next low =
             (let has : holds n (caller.Agent a) ≡ true = agent_has a way.1 acting.under_way (ap is_inside releases.1) in
             subst (λ (x : Act). CountsLock s.words x m) (sym releases.2)
             (release_counts s.words n m within (holder_bit s.words s.callers c n (caller.Agent a) at stands.locks (low_of acting) has)))
-        | inr plain ↦ plain_counts a.geometry s.words on.name t m on.named plain.0 on.place plain.1 low
+        | inr plain ↦ plain_counts a.geometry s.words on.name t m on.named plain on.place low
       ]
     ]
 
