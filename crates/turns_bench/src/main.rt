@@ -2,6 +2,12 @@
 //! answered in place of the report: `bench/turns.sh` times its turns without the report's texts.
 #![tactic(auto)]
 
+ghost use Rattle.std.specs.Prelude.{◌≡◌, None};
+ghost use Rattle.scenario_text.specs.Spelling.{WellFormed};
+ghost use Rattle.core_machine.specs.Scenarios.{IsAccepted};
+ghost use Rattle.table_build.specs.Built.{tables_of, is_bad_base};
+ghost use Rattle.region_plan.specs.Refusals.{refusal};
+
 use core_machine::play;
 use gpt_io::StdSource;
 use gpt_stream::read_input;
