@@ -1,59 +1,35 @@
--- An agent at a stage of a task: what it holds, and what it has to show of an act between its lock and its unlock.
-use Rattle.std.proofs.Common.{◌≡◌, ◌≢◌, ℕ, zero, suc, ◌+◌, ◌*◌, ◌/◌, ◌%◌, ◌^◌, ◌<◌, ◌⊎◌, ◌++◌, ◌∷◌, [], List, true, false, ◌&&◌, eqb, Option, Some, None, length, set, refl, sym, ap, ◌∙◌, subst, arith, inl, inr, append_assoc, append-nil}
-use Rattle.std.specs.Prelude.{slice_get, IfSome}
-use Rattle.std.proofs.Math.Nat.{div-le_self}
-use Rattle.std.proofs.lemmas.Bool.{cases_Bool, eqb-true}
-use Rattle.gpt_descriptors.specs.declared.size.Size.{Size}
-use Rattle.gpt_descriptors.specs.declared.size.Generations.{Generations}
-use Rattle.gpt_descriptors.specs.Sizes.{SetupData, IsSetup, granule_bytes, size_bytes, space_bytes}
-use Rattle.gpt_descriptors.specs.Places.{GeometryData, WordName, Generation, gen_place_of, blocks_in_region}
+-- An agent at a stage of a task: what it holds and sees, what the L1 words are by where it is, and what it has to show of
+-- an act between its lock and its unlock.
+use Rattle.std.proofs.Common.{◌≡◌, ◌≢◌, ℕ, zero, suc, ◌+◌, ◌*◌, ◌/◌, ◌%◌, ◌<◌, ◌⊎◌, ◌++◌, ◌∷◌, [], List, map, true, false, ◌&&◌, Option, Some, None, length, set, refl, sym, ap, ◌∙◌, subst, arith, inl, inr, append_assoc, append-nil}
+use Rattle.std.specs.Prelude.{slice_get, slice_index, IfSome}
+use Rattle.std.specs.Option.{option_map}
+use Rattle.std.proofs.lemmas.Bool.{eqb-true}
+use Rattle.std.proofs.lemmas.Option.{slice_get-map, slice_get-get_or}
+use Rattle.std.proofs.lemmas.List.{map-set, length-set}
+use Rattle.core_machine.proofs.Names.{Gpi, Size, Generations, SetupData, granule_bytes, size_bytes, space_bytes, words_of, canonical_word, word_gpi, l1_index, GeometryData, WordName, Generation, gen_place_of, blocks_in_region, l0_words, l1_index_of, l1_place_of, lock_number, Holder, Step, Whole, apart_by, AreWords, step_of, Task, Answer, Entry, caller_in, call_in, granule_in, State, start, after_entry, state_after, answered_entries, region_of, count_of, Stage, address_of, idle_answer, generation_in, granule_of_task, AgentData, IsAgent, task_of, goes_to, took_at, entries_at, Caller, IsCounted, generation_word, is_on_block, is_inside, open_at, SeesGeneration, SeesAt, is_due_at, is_around, coming_at, known_at, holds, open_by, is_due, IsMade, holder_by, HoldsIn, pairs_of, Scene, state_in, map_in, scene_after}
+use Rattle.core_machine.proofs.Names.gpi
+use Rattle.core_machine.proofs.Names.size
+use Rattle.core_machine.proofs.Names.entry
+use Rattle.core_machine.proofs.Names.stage
+use Rattle.core_machine.proofs.Names.caller
 use Rattle.gpt_descriptors.proofs.PlaceLemmas.{place_below, generation_named}
-use Rattle.bit_locks.specs.Locks.{lock_number}
-use Rattle.history.specs.declared.call.Task.{Task}
-use Rattle.history.specs.declared.call.Answer.{Answer}
-use Rattle.history.specs.declared.entry.Entry.{Entry}
-use Rattle.history.specs.declared.entry.Entry.TheVariants as entry
-use Rattle.history.specs.Entries.{caller_in, call_in, granule_in}
-use Rattle.history.specs.States.{is_open, state_after}
+use Rattle.gpt_descriptors.proofs.MeaningLemmas.{canonical_meaning}
+use Rattle.table_meaning.specs.Meaning.{BlocksMean}
+use Rattle.table_meaning.specs.Equation.{apart_in, IsAlone}
+use Rattle.table_meaning.proofs.StepLemmas.{holder_steps, holder_reads}
+use Rattle.history.specs.States.{is_open}
 use Rattle.history.specs.Legality.{StateAllows}
-use Rattle.history.specs.Calls.{answered_entries}
-use Rattle.history.specs.Counts.{region_of, count_of}
-use Rattle.delegate_ops.specs.declared.stage.Stage.{Stage}
-use Rattle.delegate_ops.specs.declared.stage.Stage.TheVariants as stage
-use Rattle.delegate_ops.specs.Deciding.{address_of, idle_answer, generation_in}
-use Rattle.delegate_ops.specs.InnerAgents.{AgentData, IsAgent, task_of, goes_to, took_at}
-use Rattle.delegate_ops.specs.InnerEntries.{entries_at}
-use Rattle.delegate_ops.proofs.DecidingLemmas.{acts_inside, acts_usable}
+use Rattle.delegate_ops.proofs.DecidingLemmas.{acts_inside}
 use Rattle.delegate_ops.proofs.AgentLemmas.{at_stage}
-use Rattle.core_machine.specs.declared.caller.Caller.{Caller}
-use Rattle.core_machine.specs.declared.caller.Caller.TheVariants as caller
-use Rattle.core_machine.specs.InnerTables.{AreTables}
-use Rattle.core_machine.specs.InnerLocks.{is_inside, holds}
-use Rattle.core_machine.specs.InnerOpened.{open_at, open_by, pairs_of, OpenAreHeld}
-use Rattle.core_machine.specs.InnerSeen.{Sees, SeesGeneration, SeesAt}
-use Rattle.core_machine.specs.InnerRaised.{is_due_at, is_around, is_due}
-use Rattle.core_machine.specs.InnerCounted.{coming_at}
-use Rattle.core_machine.specs.InnerInvariant.{IsMade}
-use Rattle.core_machine.specs.InnerScene.{Scene, state_in, HoldsIn, scene_after}
+use Rattle.delegate_ops.proofs.NextLemmas.{acts_index}
+use Rattle.core_machine.proofs.AddressLemmas.{granule_within, index_at, lock_of, region_at, region_lock, task_lock, task_low, word_by_granule}
 use Rattle.core_machine.proofs.ListLemmas.{one, get_append, get_front, get_last}
-use Rattle.core_machine.proofs.TableLemmas.{usable_aligned}
-use Rattle.core_machine.proofs.WordLemmas.{Writes, writes_none, is_lock, is_generation, is_idle, IsOfBlock, locks_left, generations_left}
-use Rattle.core_machine.proofs.OthersLemmas.{Holder, other_number, made_at_place, is_holder, holder_has, others_see, granule_address}
-use Rattle.core_machine.proofs.OpenedLemmas.{opened_stays, others_closed, closed_here}
-use Rattle.core_machine.proofs.RaisedLemmas.{count_seen}
-use Rattle.core_machine.proofs.StepLemmas.{list_of, added_to, map_in, map_next, IsEntryOf, step_keeps, counted_grown}
-use Rattle.core_machine.specs.Facts.{IsCounted, generation_word, is_on_block}
-use Rattle.delegate_ops.specs.Script.{granule_of_task}
+use Rattle.core_machine.proofs.CallerLemmas.{Owner, agent_has, due_alone, holder_there, others_closed, others_whole}
+use Rattle.core_machine.proofs.OpenedLemmas.{closed_here}
+use Rattle.core_machine.proofs.StepLemmas.{list_of, added_to, map_next, map_elsewhere, opened_with, IsEntryOf, step_keeps, counted_grown}
+use Rattle.core_machine.proofs.WordLemmas.{Writes, IsApart, is_generation, is_idle, is_level1, is_lock, generations_left, locks_left, plain_apart, words_left, writes_none}
 
 -- ---- the caller that acts
-
-pub lock_low : (s : SetupData) (pa : ℕ) → IsSetup s → pa < space_bytes s → lock_number s pa < 128
-lock_low s pa setup inside =
-    let blocks : pa / 2 ^ 29 < 128 = elim setup.gigabytes [ inl four ↦ omega (arith, four, inside) | inr sixty_four ↦ omega (arith, sixty_four, inside) ] in
-    elim (cases_Bool (eqb s.lock_blocks 0)) [
-      | inl none ↦ rw none (omega arith)
-      | inr some ↦ rw some (omega (arith, blocks, div-le_self (pa / 2 ^ 29) s.lock_blocks))
-    ]
 
 -- caller c is an agent at a stage of a task with acts, and all facts hold
 pub record Acting (s : Scene) (c : ℕ) (a : AgentData) (t : Task) (st : Stage) : Type 0 where
@@ -68,12 +44,34 @@ pub record Acting (s : Scene) (c : ℕ) (a : AgentData) (t : Task) (st : Stage) 
 abbrev pub lock_of_task : AgentData → Task → ℕ
 lock_of_task a t = lock_number a.geometry.setup (address_of t)
 
+-- where each caller is in what it does to the L1 words
+abbrev pub holders_of : List Caller → List Holder
+holders_of callers = map holder_by callers
+
+-- ---- maps and words
+
+pub length_after : (s : State) (e : Entry) → length (after_entry s e).map ≡ length s.map
+length_after s (entry.Changed c k granule from to) = length-set s.map granule to
+length_after s (entry.Refused c k granule found) = refl
+length_after s (entry.Settled c k granule) = refl
+length_after s (entry.Looked c k granule space gpi allowed) = refl
+
+pub state_length : (s : State) (h : List Entry) → length (state_after s h).map ≡ length s.map
+state_length s [] = refl
+state_length s (e ∷ h) = state_length (after_entry s e) h ∙ length_after s e
+
+-- a canonical word gives a granule of it the map's GPI
+pub canonical_gives : (s : SetupData) (m : ℕ → Gpi) (apart : Option ℕ) (granule word : ℕ) → word ≡ canonical_word s m apart (granule / 16) → word_gpi word (granule % 16) ≡ Some (m granule)
+canonical_gives s m apart granule word is =
+    let whole : 16 * (granule / 16) + granule % 16 ≡ granule = omega arith in
+    ap (λ (w : ℕ). word_gpi w (granule % 16)) is ∙ canonical_meaning s m apart (granule / 16) (granule % 16) (omega arith) ∙ ap (λ (n : ℕ). Some (m n)) whole
+
 module _ {s : Scene} {c : ℕ} {a : AgentData} {t : Task} {st : Stage} (acting : Acting s c a t st) where
   pub inside_of : address_of t < space_bytes a.geometry.setup
   inside_of = acts_inside a.geometry t acting.acts
 
-  pub aligned_of : address_of t % granule_bytes a.geometry.setup ≡ 0
-  aligned_of = usable_aligned a.geometry (address_of t) (acts_usable a.geometry t acting.acts)
+  pub low_of : lock_of_task a t < 128
+  low_of = task_low a.geometry t acting.acts acting.stands.shape.geometry.setup
 
   -- its generation words are among the words
   pub generation_below : (z : Size) → gen_place_of a.geometry z (address_of t) < length s.words
@@ -81,22 +79,12 @@ module _ {s : Scene} {c : ℕ} {a : AgentData} {t : Task} {st : Stage} (acting :
       subst (λ (n : ℕ). gen_place_of a.geometry z (address_of t) < n) (sym acting.stands.shape.size)
       (place_below a.geometry (Generation z (address_of t / size_bytes z)) (generation_named a.geometry z (address_of t) inside_of))
 
-  pub low_of : lock_of_task a t < 128
-  low_of = lock_low a.geometry.setup (address_of t) acting.stands.shape.geometry.setup inside_of
-
-  pub mades_of : (d : ℕ) (y : Caller) → slice_get s.callers d ≡ Some y → IsMade a.geometry y
-  mades_of d y there = made_at_place a.geometry s.first s.words s.callers d y acting.stands.shape there
-
-  pub holder_of : is_inside st ≡ true → Holder a.geometry s.callers c (at_stage a st) t
-  holder_of inside = record { at = acting.at; geometry = refl; inside = inside; under_way = acting.under_way; acts = acting.acts }
-
-  -- another holder has another lock
-  pub other_lock : is_inside st ≡ true → (d : ℕ) (b : AgentData) (u : Task) → d ≢ c → Holder a.geometry s.callers d b u → lock_number a.geometry.setup (address_of u) ≢ lock_of_task a t
-  other_lock inside d b u apart theirs = other_number a.geometry s.words s.callers c d (at_stage a st) b t u acting.stands.locks low_of (holder_of inside) theirs apart
+  pub owner_of : is_inside st ≡ true → Owner a.geometry s c (caller.Agent (at_stage a st)) (lock_of_task a t)
+  owner_of inside = record { stands = acting.stands; at = acting.at; has = agent_has (at_stage a st) t acting.under_way inside }
 
   -- the others hold nothing of its granule open
   pub closed_of : is_inside st ≡ true → (d : ℕ) (y : Caller) → d ≢ c → slice_get s.callers d ≡ Some y → pairs_of (granule_of_task a.geometry t) (open_by y) ≡ []
-  closed_of inside d y apart there = others_closed a.geometry s.words s.callers c d (at_stage a st) t y acting.stands.locks low_of (holder_of inside) apart there (mades_of d y there)
+  closed_of inside = others_closed (owner_of inside) (granule_of_task a.geometry t) (task_lock a.geometry t acting.acts)
 
   -- and where it holds nothing open, its granule is closed
   pub granule_closed : is_inside st ≡ true → open_at a.geometry st (Some t) ≡ [] → is_open (state_in s) (granule_of_task a.geometry t) ≡ false
@@ -106,29 +94,17 @@ module _ {s : Scene} {c : ℕ} {a : AgentData} {t : Task} {st : Stage} (acting :
   pub counts_of : is_inside st ≡ true → (k : Generations) (y : Size) → SeesGeneration a.geometry s.words t k y
       → generation_in y k + one (is_due y (region_of (granule_bytes a.geometry.setup) y (granule_of_task a.geometry t)) (caller.Agent (at_stage a st)))
       ≡ count_of a.geometry.setup.first (granule_bytes a.geometry.setup) y (region_of (granule_bytes a.geometry.setup) y (granule_of_task a.geometry t)) s.history
-  counts_of inside k y sees = count_seen a.geometry s.words s.callers s.history c (at_stage a st) t k y acting.stands.locks low_of (holder_of inside) mades_of acting.stands.generations sees
+  counts_of inside k y sees =
+      let g = a.geometry in
+      let region = region_of (granule_bytes g.setup) y (granule_of_task g t) in
+      let at : region ≡ address_of t / size_bytes y = region_at g t acting.acts y in
+      let within : region < blocks_in_region y * g.setup.gigabytes = subst (λ (n : ℕ). n < blocks_in_region y * g.setup.gigabytes) (sym at) (generation_named g y (address_of t) inside_of) in
+      let word : generation_word g s.words y region ≡ generation_in y k = ap (λ (n : ℕ). generation_word g s.words y n) at ∙ sees in
+      omega (arith, acting.stands.generations y region within, word, due_alone (owner_of inside) y region (region_lock g t acting.acts y region refl))
 
   -- what it sees
-  pub seen_of : SeesAt a.geometry (map_in s) s.words st (Some t)
-  seen_of = subst (SeesAt a.geometry (map_in s) s.words st) acting.under_way (acting.stands.seen c (caller.Agent (at_stage a st)) acting.at)
-
-  -- the others keep what they see, where the word that it writes is of no other holder's block and the map stays
-  pub others_left : {n : Option WordName} {after : List ℕ} (m : ℕ) → Writes a.geometry s.words n after → IsOfBlock a.geometry m n
-      → ((d : ℕ) (b : AgentData) (u : Task) → d ≢ c → Holder a.geometry s.callers d b u → lock_number a.geometry.setup (address_of u) ≢ m)
-      → (d : ℕ) (y : Caller) → d ≢ c → slice_get s.callers d ≡ Some y → Sees (map_in s) after y
-  others_left m writes of away d y apart there =
-      others_see (map_in s) (map_in s) s.callers d m y writes of (mades_of d y there) there (λ b u theirs. (away d b u apart theirs, λ g same. refl)) (acting.stands.seen d y there)
-
-  -- or is one that no call keeps: 128 is the number of no lock
-  pub others_stay : {n : Option WordName} {after : List ℕ} → Writes a.geometry s.words n after → IsOfBlock a.geometry 128 n → (d : ℕ) (y : Caller) → d ≢ c → slice_get s.callers d ≡ Some y → Sees (map_in s) after y
-  others_stay writes of =
-      others_left 128 writes of
-      (λ d b u apart theirs same. omega (arith, same, lock_low a.geometry.setup (address_of u) acting.stands.shape.geometry.setup (acts_inside a.geometry u theirs.acts)))
-
-  -- where it goes on holding open what it does
-  pub opened_same : (next : Stage) → open_at a.geometry next (Some t) ≡ open_at a.geometry st (Some t) → OpenAreHeld (state_in s).opened (set s.callers c (caller.Agent (goes_to (at_stage a st) next)))
-  opened_same next same =
-      opened_stays (state_in s).opened (state_in s).opened s.callers c (caller.Agent (at_stage a st)) (caller.Agent (goes_to (at_stage a st) next)) acting.at acting.stands.opened refl (rw acting.under_way same)
+  pub seen_of : SeesAt a.geometry (map_in s) s.words t st
+  seen_of = acting.stands.seen c (caller.Agent (at_stage a st)) acting.at t acting.under_way
 
   -- where it goes on owing what it does, and writes no generation
   pub raised_same : {n : Option WordName} {after : List ℕ} (next : Stage) → Writes a.geometry s.words n after → is_generation n ≡ false → ((y : Size) → is_due_at next y ≡ is_due_at st y)
@@ -136,26 +112,54 @@ module _ {s : Scene} {c : ℕ} {a : AgentData} {t : Task} {st : Stage} (acting :
       → generation_word a.geometry after y region + one (is_due_at next y && is_around a.geometry y region (Some t)) ≡ generation_word a.geometry s.words y region + one (is_due_at st y && is_around a.geometry y region (Some t)) + 0
   raised_same next writes unlike due y region within = rw (generations_left writes unlike y region within, due y) (omega arith)
 
--- whoever holds a lock holds that of its own task
-held_by : (g : GeometryData) (callers : List Caller) (d n : ℕ) (b : AgentData) (o : Option Task) → slice_get callers d ≡ Some (caller.Agent b) → IsMade g (caller.Agent b) → task_of b ≡ o → holds n (caller.Agent b) ≡ true
-    → (b : AgentData) × (u : Task) × Holder g callers d b u × (lock_number g.setup (address_of u) ≡ n)
-held_by g callers d n b None there made under_way has =
-    absurd (elim (cases_Bool (is_inside b.stage)) [ inl inside ↦ (let both : false ≡ true = rw (inside, under_way) at has in cc) | inr outside ↦ (let both : false ≡ true = rw outside at has in cc) ])
-held_by g callers d n b (Some u) there made under_way has =
-    elim (cases_Bool (is_inside b.stage)) [
-      | inl inside ↦ (
-        b,
-        u,
-        is_holder g callers d b u there made under_way inside,
-        ap (λ (k : GeometryData). lock_number k.setup (address_of u)) (sym made.0) ∙ eqb-true _ _ (rw (inside, under_way) at has),
-      )
-      | inr outside ↦ absurd (let both : false ≡ true = rw outside at has in cc)
-    ]
+  -- ---- the L1 words
 
-pub held_number : (g : GeometryData) (callers : List Caller) (d n : ℕ) (y : Caller) → slice_get callers d ≡ Some y → IsMade g y → holds n y ≡ true
-    → (b : AgentData) × (u : Task) × Holder g callers d b u × (lock_number g.setup (address_of u) ≡ n)
-held_number g callers d n (caller.Cpu looks) there made has = absurd cc
-held_number g callers d n (caller.Agent b) there made has = held_by g callers d n b (task_of b) there made refl has
+  -- where it is
+  pub holder_at : slice_get (holders_of s.callers) c ≡ Some (record { granule = granule_of_task a.geometry t; step = step_of (known_at st) })
+  holder_at = slice_get-map holder_by s.callers c ∙ ap (option_map holder_by) acting.at ∙ rw acting.under_way refl
+
+  -- each other caller leaves the words whole, or is in another 512 MB
+  pub alone_there : is_inside st ≡ true → IsAlone a.geometry.setup (holders_of s.callers) c (granule_of_task a.geometry t)
+  alone_there inside d h apart there =
+      let at = holder_there s.callers d h there in
+      subst (λ (x : Holder). (x.step ≡ Whole) ⊎ (x.granule / 16 / words_of a.geometry.setup size.FiveTwelve ≢ granule_of_task a.geometry t / 16 / words_of a.geometry.setup size.FiveTwelve)) at.2
+      (others_whole (owner_of inside) (granule_of_task a.geometry t) (task_lock a.geometry t acting.acts) d at.0 apart at.1)
+
+  -- the words after an act, by the list of holders after it
+  pub tables_after : (next : Stage) (m : ℕ → Gpi) (after : List ℕ) → AreWords a.geometry m (apart_by a.geometry.setup (set (holders_of s.callers) c (record { granule = granule_of_task a.geometry t; step = step_of (known_at next) }))) after
+      → AreWords a.geometry m (apart_by a.geometry.setup (holders_of (set s.callers c (caller.Agent (goes_to (at_stage a st) next))))) after
+  tables_after next m after are =
+      subst (λ (hs : List Holder). AreWords a.geometry m (apart_by a.geometry.setup hs) after) (sym (map-set holder_by s.callers c (caller.Agent (goes_to (at_stage a st) next)) ∙ rw acting.under_way refl)) are
+
+  -- it goes on in the same step, and writes no L1 word
+  pub tables_stay : {n : Option WordName} {after : List ℕ} → is_inside st ≡ true → (next : Stage) → step_of (known_at next) ≡ step_of (known_at st) → Writes a.geometry s.words n after → is_level1 n ≡ false
+      → AreWords a.geometry (map_in s) (apart_by a.geometry.setup (holders_of (set s.callers c (caller.Agent (goes_to (at_stage a st) next))))) after
+  tables_stay {after = after} inside next same writes unlike =
+      let g = a.geometry in
+      let before = step_of (known_at st) in
+      tables_after next (map_in s) after
+      (subst (λ (x : Step). AreWords g (map_in s) (apart_by g.setup (set (holders_of s.callers) c (record { granule = granule_of_task g t; step = x }))) after) (sym same)
+      (words_left writes (map_in s) _ unlike acting.stands.shape.geometry
+      (holder_steps g (map_in s) (holders_of s.callers) c (granule_of_task g t) before before s.words holder_at (alone_there inside) (λ w. refl) acting.stands.tables.level1)))
+
+  -- its number in the protected space
+  pub own_index : (i : ℕ) → l1_index_of a.geometry (address_of t) ≡ Some i → l1_index a.geometry.setup (l0_words a.geometry) (granule_of_task a.geometry t / 16) ≡ Some i
+  own_index i at = ap (l1_index a.geometry.setup (l0_words a.geometry)) (sym (word_by_granule a.geometry.setup (address_of t))) ∙ at
+
+  -- the word at its place is the canonical one, apart from the granule or not
+  pub reads_own : is_inside st ≡ true → (place : ℕ) → l1_place_of a.geometry (address_of t) ≡ Some place
+      → slice_index s.words place ≡ canonical_word a.geometry.setup (map_in s) (apart_in a.geometry.setup (granule_of_task a.geometry t) (granule_of_task a.geometry t / 16) (step_of (known_at st))) (granule_of_task a.geometry t / 16)
+  reads_own inside place there =
+      let at = index_at a.geometry (address_of t) place there in
+      ap (slice_index s.words) at.2
+      ∙ holder_reads a.geometry (map_in s) (holders_of s.callers) c (granule_of_task a.geometry t) (step_of (known_at st)) s.words (granule_of_task a.geometry t / 16) at.0 holder_at (alone_there inside) (own_index at.0 at.1) refl
+      acting.stands.tables.level1
+
+  -- the map has its granule
+  pub map_has : slice_get (state_in s).map (granule_of_task a.geometry t) ≡ Some (map_in s (granule_of_task a.geometry t))
+  map_has =
+      slice_get-get_or (state_in s).map (granule_of_task a.geometry t) gpi.Any
+      (subst (λ (n : ℕ). granule_of_task a.geometry t < n) (sym (state_length (start s.first) s.history ∙ acting.stands.shape.granules)) (granule_within a.geometry.setup (address_of t) inside_of))
 
 -- ---- an act between its lock and its unlock
 
@@ -173,13 +177,13 @@ pub record Goes (s : Scene) (c : ℕ) (a : AgentData) (t : Task) (st next : Stag
   pub stays : is_inside next ≡ true
   pub made : IsMade a.geometry (caller.Agent (goes_to (at_stage a st) next))
   pub writes : Writes a.geometry s.words n after
+  pub block : (m : ℕ) → lock_of_task a t ≢ m → IsApart a.geometry m n
   pub no_lock : is_lock n ≡ false
   pub idle : is_idle n ≡ false
   pub entry : IfSome o (IsOwn s c a t)
-  pub tables : AreTables a.geometry after (set s.callers c (caller.Agent (goes_to (at_stage a st) next))) (map_next s o)
-  pub others : (d : ℕ) (y : Caller) → d ≢ c → slice_get s.callers d ≡ Some y → Sees (map_next s o) after y
-  pub opened : OpenAreHeld (state_after (state_in s) (list_of o)).opened (set s.callers c (caller.Agent (goes_to (at_stage a st) next)))
-  pub seen : SeesAt a.geometry (map_next s o) after next (Some t)
+  pub words : AreWords a.geometry (map_next s o) (apart_by a.geometry.setup (holders_of (set s.callers c (caller.Agent (goes_to (at_stage a st) next))))) after
+  pub opened : open_at a.geometry next (Some t) ≡ opened_with o (open_at a.geometry st (Some t))
+  pub seen : SeesAt a.geometry (map_next s o) after t next
   pub raised : (y : Size) (region : ℕ) → region < blocks_in_region y * a.geometry.setup.gigabytes
       → generation_word a.geometry after y region + one (is_due_at next y && is_around a.geometry y region (Some t))
       ≡ generation_word a.geometry s.words y region + one (is_due_at st y && is_around a.geometry y region (Some t)) + added_to a.geometry y region o
@@ -199,17 +203,22 @@ entry_of next None acting inside own = tt
 entry_of {s = s} {c = c} {a = a} {t = t} {st = st} next (Some e) acting inside own =
     let g = a.geometry in
     let number : (m : ℕ) → is_on_block g.setup m e ≡ true → lock_of_task a t ≡ m =
-    λ m on. ap (lock_number g.setup) (sym (granule_address g t acting.acts) ∙ ap (λ (granule : ℕ). granule * granule_bytes g.setup) (sym own.granule)) ∙ on_number g.setup m e on in
+    λ m on. sym (task_lock g t acting.acts) ∙ ap (lock_of g.setup) (sym own.granule) ∙ on_number g.setup m e on in
     record {
       caller = own.caller;
       call = own.call;
       goes_on = refl;
-      block = λ m on. (
-        subst (λ (k : ℕ). k < 128) (number m on) (low_of acting),
-        subst (λ (k : ℕ). holds k (caller.Agent (at_stage a st)) ≡ true) (number m on) (holder_has g s.callers c (at_stage a st) t (holder_of acting inside)),
-      );
+      block = λ m on. subst (λ (k : ℕ). holds k (caller.Agent (at_stage a st)) ≡ true) (number m on) (owner_of acting inside).has;
       allowed = own.allowed;
     }
+
+-- its granule has an L1 word, so that what L0 blocks mean stays
+blocks_next : {s : Scene} {c : ℕ} {a : AgentData} {t : Task} {st : Stage} (acting : Acting s c a t st) (o : Option Entry) → IfSome o (IsOwn s c a t) → BlocksMean a.geometry.setup (l0_words a.geometry) (map_next s o)
+blocks_next acting None own = acting.stands.tables.blocks
+blocks_next {s = s} {a = a} {t = t} acting (Some e) own = λ k inside none.
+    acting.stands.tables.blocks k inside none
+    ∙ ap Some (map_elsewhere (state_in s) e k (λ same. absurd (let index = acts_index a.geometry t acting.acts in
+    let both : None ≡ Some index.0 = sym none ∙ ap (λ (x : ℕ). l1_index a.geometry.setup (l0_words a.geometry) (x / 16)) (same ∙ own.granule) ∙ own_index acting index.0 index.1 in cc)))
 
 one_item : (xs : List Answer) (i : ℕ) (given : Answer) → length xs < 2 → slice_get xs i ≡ Some given → (i ≡ 0) × (xs ≡ given ∷ [])
 one_item [] i given few there = absurd cc
@@ -243,17 +252,18 @@ goes_keeps {s = s} {c = c} {a = a} {t = t} {st = st} acting next n after o goes 
     let me = caller.Agent (at_stage a st) in
     let x = caller.Agent (goes_to (at_stage a st) next) in
     let entry = entry_of next o acting goes.inside goes.entry in
-    step_keeps g s c me x n after o acting.stands
-    (record {
+    step_keeps {n = n} (record {
+      stands = acting.stands;
       at = acting.at;
       made = goes.made;
       writes = goes.writes;
+      apart = λ m free. goes.block m (λ same. absurd (let both : true ≡ false = sym (owner_of acting goes.inside).has ∙ ap (λ (k : ℕ). holds k me) same ∙ free in cc));
+      idle = goes.idle;
       entry = entry;
-      tables = goes.tables;
-      opened = goes.opened;
+      tables = record { level1 = goes.words; blocks = blocks_next acting o goes.entry };
+      opened = rw acting.under_way goes.opened;
       locks = λ m low. rw (locks_left goes.writes goes.no_lock m low, goes.inside, goes.stays) refl;
-      seen = rw acting.under_way goes.seen;
-      others = goes.others;
+      seen = λ u under_way. let same : t ≡ u = (let both : Some t ≡ Some u = sym acting.under_way ∙ under_way in cc) in subst (λ (v : Task). SeesAt g (map_next s o) after v next) same goes.seen;
       raised = λ y region within. rw acting.under_way (goes.raised y region within);
       alone = λ m has. acting.stands.alone c m me acting.at (rw goes.inside (rw goes.stays at has));
       counted = λ k u given asked answered.
@@ -269,7 +279,6 @@ goes_keeps {s = s} {c = c} {a = a} {t = t} {st = st} acting next n after o goes 
       own = rw acting.under_way
           (ap (λ (es : List Entry). answered_entries (granule_bytes g.setup) c 0 a.tasks a.answers ++ es) goes.front
           ∙ sym (append_assoc (answered_entries (granule_bytes g.setup) c 0 a.tasks a.answers) (entries_at g c (length a.answers) st (Some t)) (list_of o)));
-      idle = goes.idle;
     })
 
 -- ---- an act that makes no entry
@@ -284,22 +293,22 @@ pub record IsAlike (g : GeometryData) (c k : ℕ) (t : Task) (st next : Stage) :
 
 -- it writes no lock and no generation, and leaves the map
 pub goes_quietly : {s : Scene} {c : ℕ} {a : AgentData} {t : Task} {st : Stage} (acting : Acting s c a t st) (next : Stage) (n : Option WordName) (after : List ℕ) → IsAlike a.geometry c (length a.answers) t st next
-    → IsMade a.geometry (caller.Agent (goes_to (at_stage a st) next)) → Writes a.geometry s.words n after → IsOfBlock a.geometry (lock_of_task a t) n → is_lock n ≡ false → is_idle n ≡ false → is_generation n ≡ false
-    → AreTables a.geometry after (set s.callers c (caller.Agent (goes_to (at_stage a st) next))) (map_in s) → SeesAt a.geometry (map_in s) after next (Some t)
+    → IsMade a.geometry (caller.Agent (goes_to (at_stage a st) next)) → Writes a.geometry s.words n after → is_lock n ≡ false → is_idle n ≡ false → is_generation n ≡ false
+    → AreWords a.geometry (map_in s) (apart_by a.geometry.setup (holders_of (set s.callers c (caller.Agent (goes_to (at_stage a st) next))))) after → SeesAt a.geometry (map_in s) after t next
     → ((given : Answer) → coming_at next ≡ given ∷ [] → coming_at st ≡ given ∷ []) → HoldsIn a.geometry (scene_after s c (caller.Agent (goes_to (at_stage a st) next)) after [])
-goes_quietly {s = s} {c = c} {a = a} {t = t} {st = st} acting next n after alike made writes block no_lock idle no_generation tables sees coming =
+goes_quietly {s = s} {c = c} {a = a} {t = t} {st = st} acting next n after alike made writes no_lock idle no_generation words sees coming =
     goes_keeps acting next n after None
     (record {
       inside = alike.inside;
       stays = alike.stays;
       made = made;
       writes = writes;
+      block = λ m other. plain_apart a.geometry m n no_generation;
       no_lock = no_lock;
       idle = idle;
       entry = tt;
-      tables = tables;
-      others = others_left acting (lock_of_task a t) writes block (other_lock acting alike.inside);
-      opened = opened_same acting next alike.opened;
+      words = words;
+      opened = alike.opened;
       seen = sees;
       raised = raised_same acting next writes no_generation alike.due;
       coming = λ given is. subst (IsCounted a.geometry c (length a.answers) t given) (sym (append-nil s.history)) (counted_coming acting given (coming given is));
@@ -308,7 +317,7 @@ goes_quietly {s = s} {c = c} {a = a} {t = t} {st = st} acting next n after alike
 
 -- it writes nothing, and no answer is to come
 pub load_quietly : {s : Scene} {c : ℕ} {a : AgentData} {t : Task} {st : Stage} (acting : Acting s c a t st) (next : Stage) → IsAlike a.geometry c (length a.answers) t st next
-    → IsMade a.geometry (caller.Agent (goes_to (at_stage a st) next)) → AreTables a.geometry s.words (set s.callers c (caller.Agent (goes_to (at_stage a st) next))) (map_in s) → SeesAt a.geometry (map_in s) s.words next (Some t) → coming_at next ≡ []
-    → HoldsIn a.geometry (scene_after s c (caller.Agent (goes_to (at_stage a st) next)) s.words [])
-load_quietly {s = s} {a = a} acting next alike made tables sees none =
-    goes_quietly acting next None s.words alike made (writes_none a.geometry s.words) tt refl refl refl tables sees (λ given is. absurd (let both : [] ≡ given ∷ [] = sym none ∙ is in cc))
+    → IsMade a.geometry (caller.Agent (goes_to (at_stage a st) next)) → AreWords a.geometry (map_in s) (apart_by a.geometry.setup (holders_of (set s.callers c (caller.Agent (goes_to (at_stage a st) next))))) s.words
+    → SeesAt a.geometry (map_in s) s.words t next → coming_at next ≡ [] → HoldsIn a.geometry (scene_after s c (caller.Agent (goes_to (at_stage a st) next)) s.words [])
+load_quietly {s = s} {a = a} acting next alike made words sees none =
+    goes_quietly acting next None s.words alike made (writes_none a.geometry s.words) refl refl refl words sees (λ given is. absurd (let both : [] ≡ given ∷ [] = sym none ∙ is in cc))

@@ -4,25 +4,19 @@ use Rattle.std.specs.List.{All, list_any}
 use Rattle.std.proofs.lemmas.Bool.{cases_Bool, eqb-true, ne_eqb, and_parts, and_left, and_right, or_cases, or_parts, or_from, or_left, or_right}
 use Rattle.std.proofs.lemmas.List.Elements.{All-nil, All-cons, All-head, All-tail, All-push, All-append}
 use Rattle.std.proofs.lemmas.List.Folds.{list_any-append}
+use Rattle.core_machine.proofs.Names.{Gpi, SetupData, Task, Answer, Entry, caller_in, call_in, entries_by, call_entries, answered_entries, is_by, is_on_block}
+use Rattle.core_machine.proofs.Names.gpi
+use Rattle.core_machine.proofs.Names.task
+use Rattle.core_machine.proofs.Names.answer
+use Rattle.core_machine.proofs.Names.entry
 use Rattle.gpi_values.specs.declared.gpi.Space.{Space}
-use Rattle.gpi_values.specs.declared.gpi.Gpi.{Gpi}
-use Rattle.gpi_values.specs.declared.gpi.Gpi.TheVariants as gpi
 use Rattle.gpi_values.specs.Values.{own_of}
-use Rattle.gpt_descriptors.specs.Sizes.{SetupData}
-use Rattle.history.specs.declared.call.Task.{Task}
-use Rattle.history.specs.declared.call.Task.TheVariants as task
 use Rattle.history.specs.declared.call.Access.{Access}
-use Rattle.history.specs.declared.call.Answer.{Answer}
-use Rattle.history.specs.declared.call.Answer.TheVariants as answer
-use Rattle.history.specs.declared.entry.Entry.{Entry}
-use Rattle.history.specs.declared.entry.Entry.TheVariants as entry
-use Rattle.history.specs.Entries.{caller_in, call_in}
 use Rattle.history.specs.Legality.{is_still}
-use Rattle.history.specs.Calls.{entries_by, call_entries, look_entries, answered_entries}
-use Rattle.history.specs.Counts.{is_by}
-use Rattle.core_machine.specs.InnerAlone.{IsAlone}
+use Rattle.history.specs.Calls.{look_entries}
 use Rattle.core_machine.proofs.ListLemmas.{all_one}
-use Rattle.core_machine.specs.Facts.{AreUndisturbed, is_on_block}
+use Rattle.core_machine.specs.Facts.{AreUndisturbed}
+use Rattle.core_machine.specs.InnerInvariant.{IsAlone}
 
 -- ---- lists in parts
 

@@ -1,75 +1,37 @@
 -- What a history says of calls without an answer, and the causes of the answers without acts.
-use Rattle.std.proofs.Common.{◌≡◌, ℕ, zero, suc, ◌+◌, ◌*◌, ◌/◌, ◌<◌, ◌≤◌, ◌++◌, ◌∷◌, [], List, Bool, true, false, ◌&&◌, eqb, map, length, Option, Some, None, refl, sym, ap, ◌∙◌, subst, arith, inl, inr}
+use Rattle.std.proofs.Common.{◌≡◌, ℕ, zero, suc, ◌+◌, ◌<◌, ◌≤◌, ◌++◌, ◌∷◌, [], List, Bool, true, false, ◌&&◌, eqb, map, length, Option, Some, None, refl, sym, ap, ◌∙◌, subst, arith, inl, inr}
 use Rattle.std.specs.Prelude.{slice_get, MatchOption}
-use Rattle.std.specs.List.{All, find, list_any}
+use Rattle.std.specs.List.{All, list_any}
 use Rattle.std.specs.Option.{option_map}
-use Rattle.std.proofs.lemmas.Bool.{cases_Bool, eqb-true, eq-eqb, and_parts, and_right, or_cases, or_parts}
-use Rattle.std.proofs.lemmas.List.Elements.{All-nil, All-head, All-tail, All-append}
+use Rattle.std.proofs.lemmas.Bool.{cases_Bool, eqb-true, eq-eqb, and_parts, or_cases, or_parts}
+use Rattle.std.proofs.lemmas.List.Elements.{All-head, All-tail}
 use Rattle.std.proofs.lemmas.List.Folds.{list_any-append}
 use Rattle.std.proofs.lemmas.Option.{slice_get-map}
-use Rattle.gpi_values.specs.declared.gpi.Gpi.{Gpi}
-use Rattle.gpi_values.specs.declared.gpi.Gpi.TheVariants as gpi
-use Rattle.gpi_values.specs.Values.{own_of as of_source, value_of}
-use Rattle.gpt_descriptors.specs.declared.size.Size.{Size}
-use Rattle.gpt_descriptors.specs.declared.size.Size.TheVariants as size
-use Rattle.gpt_descriptors.specs.Sizes.{SetupData, granule_bytes}
-use Rattle.gpt_descriptors.specs.Entries.{word_gpi}
-use Rattle.gpt_descriptors.specs.Places.{GeometryData}
-use Rattle.bit_locks.specs.Locks.{lock_number}
-use Rattle.history.specs.declared.call.Task.{Task}
-use Rattle.history.specs.declared.call.Task.TheVariants as task
-use Rattle.history.specs.declared.call.Answer.{Answer}
-use Rattle.history.specs.declared.call.Answer.TheVariants as answer
-use Rattle.history.specs.declared.entry.Entry.{Entry}
-use Rattle.history.specs.declared.entry.Entry.TheVariants as entry
-use Rattle.delegate_ops.specs.declared.stage.Change.{Change}
-use Rattle.delegate_ops.specs.declared.stage.Change.TheVariants as change
-use Rattle.delegate_ops.specs.declared.stage.Stage.{Stage}
-use Rattle.delegate_ops.specs.declared.stage.Stage.TheVariants as stage
-use Rattle.delegate_ops.specs.InnerAgents.{AgentData, task_of, HasActs, IsStage}
-use Rattle.core_machine.specs.declared.caller.Caller.{Caller}
-use Rattle.core_machine.specs.declared.caller.Caller.TheVariants as caller
+use Rattle.history.specs.declared.call.Answer.TheVariants as answers
 use Rattle.std.proofs.lemmas.Option.{slice_get_cases}
+use Rattle.core_machine.proofs.Names.{Gpi, value_of, Size, SetupData, granule_bytes, word_gpi, GeometryData, lock_number, Task, Answer, Entry, Stage, AgentData, task_of, HasActs, IsStage, Caller, IsCounted, is_on_block, CallEvent, granule_of_task, address_of, generation_in, granule_place, idle_answer, IsPrefix, Scene, answer_at, answered_entries, entries_by, call_in, caller_in, granule_in, caller_answers, known_answers, holds, entries_at, CallAllows, granule_of, needed, is_by, HoldsIn, IsHistoryOf, coming_at, is_inside}
+use Rattle.core_machine.proofs.Names.task
+use Rattle.core_machine.proofs.Names.entry
+use Rattle.core_machine.proofs.Names.stage
+use Rattle.core_machine.proofs.Names.caller
 use Rattle.core_machine.proofs.LegalLemmas.{HaveTasks, AreMade}
-use Rattle.core_machine.proofs.EntryLemmas.{IsOwnEntry, FitsAnswer, decided_fits, prefix_fits, prefix_allowed}
-use Rattle.core_machine.proofs.AloneLemmas.{all_middle, any_weaker, any_one, later_number, all_two}
-use Rattle.core_machine.proofs.ListLemmas.{all_one}
-use Rattle.core_machine.proofs.OthersLemmas.{granule_address}
+use Rattle.core_machine.proofs.EntryLemmas.{refused_is, IsOwnEntry, prefix_fits, prefix_allowed}
+use Rattle.core_machine.proofs.AloneLemmas.{all_middle, any_weaker, later_number}
+use Rattle.delegate_ops.proofs.ScriptLemmas.{some_mapped}
 use Rattle.core_machine.proofs.ActLemmas.{on_number}
-use Rattle.core_machine.specs.InnerAlone.{IsAlone}
-use Rattle.core_machine.specs.Facts.{AreAlone, AreWorn, IsCounted, is_on_block}
-use Rattle.delegate_ops.specs.Script.{AreCallEvents, CallEvent, Decides, IsCall, change_entry, completion, entries_of, granule_of_task}
-use Rattle.delegate_ops.specs.Deciding.{HasCause, address_of, generation_in, granule_place, idle_answer, is_decided, is_needed, refusal_of}
-use Rattle.delegate_ops.specs.InnerScript.{IsPrefix}
-use Rattle.core_machine.specs.InnerScene.{Scene, HoldsIn}
-use Rattle.core_machine.specs.InnerHistory.{IsHistoryOf}
-use Rattle.history.specs.Calls.{answer_at, answered_entries, entries_by}
-use Rattle.history.specs.Entries.{call_in, caller_in, granule_in}
-use Rattle.core_machine.specs.InnerCallers.{caller_answers, own_of}
-use Rattle.core_machine.specs.InnerCounted.{coming_at, known_answers}
-use Rattle.delegate_ops.specs.InnerEntries.{entries_at, entries_before}
-use Rattle.history.specs.Legality.{granule_of, needed}
-use Rattle.core_machine.specs.InnerLocks.{holds, is_inside}
-use Rattle.history.specs.Counts.{is_by, is_worn}
+use Rattle.core_machine.specs.Facts.{AreAlone, AreWorn}
+use Rattle.delegate_ops.specs.Script.{AreCallEvents, Decides, IsCall}
+use Rattle.delegate_ops.specs.Deciding.{HasCause, is_decided}
+use Rattle.core_machine.specs.InnerCallers.{own_of}
+use Rattle.gpi_values.proofs.ValueLemmas.{value_one}
+use Rattle.core_machine.specs.InnerInvariant.{IsAlone}
+use Rattle.core_machine.proofs.AddressLemmas.{lock_of, task_lock}
 
 -- ---- causes
 
-refusal_cause : (t : Task) (o : Option Gpi) (a : Answer) → refusal_of t o ≡ Some a → is_decided a ≡ true
-refusal_cause t None a refused = absurd cc
-refusal_cause t (Some found) a refused =
-    elim (cases_Bool (is_needed (needed t) found)) [
-      | inl same ↦ absurd (let both = rw same at refused in cc)
-      | inr other ↦ subst (λ (x : Answer). is_decided x ≡ true) (let both = rw other at refused in let is : answer.Perm found ≡ a = cc in is) refl
-    ]
-
-worn_cause : (o : Option Size) (f : Size → ℕ) (a : Answer) → option_map (λ z. answer.Worn z (f z)) o ≡ Some a → is_decided a ≡ true
-worn_cause None f a worn = absurd cc
-worn_cause (Some z) f a worn = subst (λ (x : Answer). is_decided x ≡ true) (let is : answer.Worn z (f z) ≡ a = cc in is) refl
-
 decided_cause : (g : GeometryData) (c n : ℕ) (t : Task) (given : Answer) (events : List CallEvent) → Decides g c n t given events → is_decided given ≡ true
-decided_cause g c n t given events (inl refused) = refusal_cause t (word_gpi refused.word (granule_place g (address_of t))) given refused.refused
-decided_cause g c n t given events (inr (inl worn)) =
-    worn_cause (find (λ z. is_worn (generation_in z worn.generations)) (size.Two ∷ size.ThirtyTwo ∷ size.FiveTwelve ∷ [])) (λ z. generation_in z worn.generations) given worn.worn
+decided_cause g c n t given events (inl refused) = ap is_decided (refused_is t (word_gpi refused.word (granule_place g (address_of t))) given refused.refused).3
+decided_cause g c n t given events (inr (inl worn)) = ap is_decided (sym (some_mapped (λ (z : Size). answers.Worn z (generation_in z worn.generations)) _ given worn.worn).2)
 decided_cause g c n t given events (inr (inr done)) = subst (λ (x : Answer). is_decided x ≡ true) (sym done.is) refl
 
 call_cause : (g : GeometryData) (c n : ℕ) (t : Task) (o : Option Answer) (given : Answer) (events : List CallEvent) → IsCall g c n t o given events → MatchOption o (is_decided given ≡ true) (λ idle. given ≡ idle)
@@ -152,6 +114,9 @@ pub record UnderWay (g : GeometryData) (c k : ℕ) (a : AgentData) (p : Entry �
   pub entry : Entry
   pub granule : granule_of (granule_bytes g.setup) task ≡ Some (granule_in entry)
   pub passes : p entry ≡ true
+  pub answer : Answer
+  pub allows : CallAllows task answer entry
+  pub worn : (z : Size) (v : ℕ) → answer ≡ answers.Worn z v → a.stage ≡ stage.Releasing answer
   pub some : list_any p (entries_at g c (length a.answers) a.stage (Some task)) ≡ true
 
 under_way_by : (g : GeometryData) (c k : ℕ) (a : AgentData) (p : Entry → Bool) (o : Option Task) (events : List CallEvent) → task_of a ≡ o → HasActs g o → IsStage g a.stage o → IsPrefix g c (length a.answers) a.stage o events
@@ -159,7 +124,7 @@ under_way_by : (g : GeometryData) (c k : ℕ) (a : AgentData) (p : Entry → Boo
 under_way_by g c k a p None events next acts fits prefix by some =
     absurd (let none = prefix_fits g c (length a.answers) a.stage None events fits prefix in let both : list_any p [] ≡ true = subst (λ (es : List Entry). list_any p es ≡ true) none some in cc)
 under_way_by g c k a p (Some t) events next acts fits prefix by some =
-    let own = prefix_allowed g c (length a.answers) t (entries_at g c (length a.answers) a.stage (Some t)) acts (prefix_fits g c (length a.answers) a.stage (Some t) events fits prefix) in
+    let own = prefix_allowed g c (length a.answers) a.stage t (entries_at g c (length a.answers) a.stage (Some t)) acts (prefix_fits g c (length a.answers) a.stage (Some t) events fits prefix) in
     let one = any_all (IsOwnEntry g c (length a.answers) t own.0) p (entries_at g c (length a.answers) a.stage (Some t)) own.1 some in
     record {
       task = t;
@@ -169,6 +134,9 @@ under_way_by g c k a p (Some t) events next acts fits prefix by some =
       entry = one.0;
       granule = one.1.granule;
       passes = one.2;
+      answer = own.0;
+      allows = one.1.allows;
+      worn = own.2;
       some = some;
     }
 
@@ -225,7 +193,7 @@ alone_of s before after e c k n a stands at way parts by =
     let on = (and_parts (is_by c k way.entry) (is_on_block g.setup n way.entry) way.passes).1 in
     let granule = task_granule g way.task (granule_in way.entry) way.granule in
     let number : lock_number g.setup (address_of way.task) ≡ n =
-    ap (lock_number g.setup) (sym (granule_address g way.task way.acts) ∙ ap (λ (x : ℕ). x * granule_bytes g.setup) (sym granule)) ∙ on_number g.setup n way.entry on in
+    sym (task_lock g way.task way.acts) ∙ ap (lock_of g.setup) (sym granule) ∙ on_number g.setup n way.entry on in
     let inside = inside_by g c (length a.answers) a.stage way.task (on_block_of g.setup c k n) way.some in
     let has : holds n (caller.Agent a) ≡ true = rw (inside, way.next) (eq-eqb (lock_number g.setup (address_of way.task)) n number) in
     let alone : IsAlone g.setup n c k s.history = subst (λ (m : ℕ). IsAlone g.setup n c m s.history) (sym way.number) (stands.alone c n (caller.Agent a) at has) in
@@ -249,91 +217,31 @@ refuses found e = false
 abbrev refused_by : ℕ → ℕ → Gpi → Entry → Bool
 refused_by c k found e = is_by c k e && refuses found e
 
-none_pass : {X : Type 0} (p : X → Bool) (xs : List X) → All (λ x. p x ≡ false) xs → list_any p xs ≡ true → ⊥
-none_pass p xs none some = let one = any_all (λ x. p x ≡ false) p xs none some in let both : true ≡ false = sym one.2 ∙ one.1 in cc
-
--- an entry that refuses nothing
-none_refuses : (c k : ℕ) (found : Gpi) (e : Entry) → refuses found e ≡ false → refused_by c k found e ≡ false
-none_refuses c k found e none = and_right (is_by c k e) (refuses found e) none
-
--- the answer that the call is to have is a worn one
-worn_to_come : (g : GeometryData) (c n k : ℕ) (t : Task) (given : Answer) (found : Gpi) → needed t ≡ Some found → FitsAnswer t given → list_any (refused_by c k found) (entries_of g c n t given) ≡ true
-    → (z : Size) × (value : ℕ) × (given ≡ answer.Worn z value)
-worn_to_come g c n k t (answer.Worn z value) found needs fits some = (z, value, refl)
-worn_to_come g c n k (task.Delegate pa source) (answer.Perm given) found needs fits some =
-    absurd
-    (let one = (and_parts _ _ (any_one (refused_by c k found) (entry.Refused c n (pa / granule_bytes g.setup) given) some)).1 in
-    let needed_is : gpi.NonSecure ≡ found = cc in
-    let same : value_of gpi.NonSecure ≡ value_of given = ap value_of needed_is ∙ sym (eqb-true _ _ one) in
-    let both : true ≡ false = sym (eq-eqb (value_of gpi.NonSecure) (value_of given) same) ∙ fits in cc)
-worn_to_come g c n k (task.Undelegate pa source) (answer.Perm given) found needs fits some =
-    absurd
-    (let one = (and_parts _ _ (any_one (refused_by c k found) (entry.Refused c n (pa / granule_bytes g.setup) given) some)).1 in
-    let needed_is : of_source source ≡ found = cc in
-    let same : value_of (of_source source) ≡ value_of given = ap value_of needed_is ∙ sym (eqb-true _ _ one) in
-    let both : true ≡ false = sym (eq-eqb (value_of (of_source source)) (value_of given) same) ∙ fits in cc)
-worn_to_come g c n k (task.Delegate pa source) (answer.Done generations) found needs fits some =
-    absurd (none_pass (refused_by c k found) (entries_of g c n (task.Delegate pa source) (answer.Done generations))
-    (all_two (λ e. refused_by c k found e ≡ false) (entry.Changed c n (pa / granule_bytes g.setup) gpi.NonSecure (of_source source)) (entry.Settled c n (pa / granule_bytes g.setup))
-    (none_refuses c k found (entry.Changed c n (pa / granule_bytes g.setup) gpi.NonSecure (of_source source)) refl) (none_refuses c k found (entry.Settled c n (pa / granule_bytes g.setup)) refl)) some)
-worn_to_come g c n k (task.Undelegate pa source) (answer.Done generations) found needs fits some =
-    absurd (none_pass (refused_by c k found) (entries_of g c n (task.Undelegate pa source) (answer.Done generations))
-    (All-append (λ e. refused_by c k found e ≡ false) (entry.Changed c n (pa / granule_bytes g.setup) (of_source source) gpi.NoAccess ∷ entry.Settled c n (pa / granule_bytes g.setup) ∷ [])
-    (entry.Changed c n (pa / granule_bytes g.setup) gpi.NoAccess gpi.NonSecure ∷ entry.Settled c n (pa / granule_bytes g.setup) ∷ [])
-    (all_two (λ e. refused_by c k found e ≡ false) (entry.Changed c n (pa / granule_bytes g.setup) (of_source source) gpi.NoAccess) (entry.Settled c n (pa / granule_bytes g.setup))
-    (none_refuses c k found (entry.Changed c n (pa / granule_bytes g.setup) (of_source source) gpi.NoAccess) refl) (none_refuses c k found (entry.Settled c n (pa / granule_bytes g.setup)) refl))
-    (all_two (λ e. refused_by c k found e ≡ false) (entry.Changed c n (pa / granule_bytes g.setup) gpi.NoAccess gpi.NonSecure) (entry.Settled c n (pa / granule_bytes g.setup))
-    (none_refuses c k found (entry.Changed c n (pa / granule_bytes g.setup) gpi.NoAccess gpi.NonSecure) refl) (none_refuses c k found (entry.Settled c n (pa / granule_bytes g.setup)) refl))) some)
-worn_to_come g c n k t (answer.Seen access) found needs fits some = absurd fits
-worn_to_come g c n k (task.Delegate pa source) answer.Inval found needs fits some = absurd cc
-worn_to_come g c n k (task.Delegate pa source) answer.Unknown found needs fits some = absurd cc
-worn_to_come g c n k t given found needs fits some = absurd cc
-
-before_quiet : (g : GeometryData) (c n k : ℕ) (t : Task) (ch : Change) (found : Gpi) → All (λ e. refused_by c k found e ≡ false) (entries_before g c n t ch)
-before_quiet g c n k (task.Undelegate pa source) change.Last found =
-    all_two (λ e. refused_by c k found e ≡ false) (change_entry g c n (task.Undelegate pa source) change.First) (completion g c n (task.Undelegate pa source))
-    (none_refuses c k found (change_entry g c n (task.Undelegate pa source) change.First) refl) (none_refuses c k found (completion g c n (task.Undelegate pa source)) refl)
-before_quiet g c n k t ch found = All-nil (λ e. refused_by c k found e ≡ false)
+-- is of a call that is answered with a worn generation
+refusal_worn : (t : Task) (a : Answer) (e : Entry) (found : Gpi) → CallAllows t a e → refuses found e ≡ true → needed t ≡ Some found → (z : Size) × (value : ℕ) × (a ≡ answers.Worn z value)
+refusal_worn t (answers.Worn z value) e found allows is needs = (z, value, refl)
+refusal_worn t (answers.Perm other) (entry.Refused c k granule given) found allows is needs = absurd (allows.1 (needs ∙ ap Some (sym (value_one given found (eqb-true _ _ is)))))
+refusal_worn t a (entry.Refused c k granule given) found allows is needs = absurd allows
+refusal_worn t a e found allows is needs = absurd cc
 
 get_after : {X : Type 0} (xs : List X) (x : X) → slice_get (xs ++ x ∷ []) (length xs) ≡ Some x
 get_after [] x = refl
 get_after (y ∷ xs) x = get_after xs x
 
--- the entries at a stage refuse only where the call is to be answered so
-worn_at : (g : GeometryData) (c n k : ℕ) (s : Stage) (t : Task) (found : Gpi) (events : List CallEvent) → needed t ≡ Some found → IsPrefix g c n s (Some t) events → list_any (refused_by c k found) (entries_at g c n s (Some t)) ≡ true
-    → (z : Size) × (value : ℕ) × (s ≡ stage.Releasing (answer.Worn z value))
-worn_at g c n k (stage.Releasing given) t found events needs prefix some =
-    let worn = worn_to_come g c n k t given found needs (decided_fits g c n t given events prefix) some in
-    (worn.0, worn.1, ap stage.Releasing worn.2)
-worn_at g c n k (stage.Merging f kept) t found events needs prefix some =
-    let worn = worn_to_come g c n k t (answer.Done kept) found needs tt some in
-    absurd (let other : answer.Done kept ≡ answer.Worn worn.0 worn.1 = worn.2 in cc)
-worn_at g c n k (stage.Changing ch kept) t found events needs prefix some = absurd (none_pass (refused_by c k found) (entries_before g c n t ch) (before_quiet g c n k t ch found) some)
-worn_at g c n k (stage.Raising ch z kept) t found events needs prefix some =
-    absurd
-    (none_pass (refused_by c k found) (entries_before g c n t ch ++ change_entry g c n t ch ∷ [])
-    (All-append (λ e. refused_by c k found e ≡ false) (entries_before g c n t ch) (change_entry g c n t ch ∷ []) (before_quiet g c n k t ch found)
-    (all_one (λ e. refused_by c k found e ≡ false) (change_entry g c n t ch) (none_refuses c k found (change_entry g c n t ch) refl))) some)
-worn_at g c n k s t found events needs prefix some = absurd cc
-
-worn_of : (g : GeometryData) (s : Scene) (c k : ℕ) (a : AgentData) (t : Task) (found : Gpi) (events : List CallEvent) → HoldsIn g s → slice_get s.callers c ≡ Some (caller.Agent a)
-    → a.geometry ≡ g → task_of a ≡ Some t → k ≡ length a.answers → needed t ≡ Some found → IsPrefix a.geometry c (length a.answers) a.stage (Some t) events
-    → list_any (refused_by c k found) (entries_at a.geometry c (length a.answers) a.stage (Some t)) ≡ true → (z : Size) × (value : ℕ) × IsCounted g c k t (answer.Worn z value) s.history
-worn_of g s c k a t found events stands at geometry next number needs prefix some =
-    let worn = worn_at a.geometry c (length a.answers) k a.stage t found events needs prefix some in
-    let given : Answer = answer.Worn worn.0 worn.1 in
-    let coming : known_answers (caller.Agent a) ≡ a.answers ++ given ∷ [] = ap (λ (st : Stage). a.answers ++ coming_at st) worn.2 in
+worn_of : (g : GeometryData) (s : Scene) (c k : ℕ) (a : AgentData) (t : Task) (found : Gpi) → HoldsIn g s → slice_get s.callers c ≡ Some (caller.Agent a)
+    → (way : UnderWay a.geometry c k a (refused_by c k found)) → way.task ≡ t → needed t ≡ Some found → (z : Size) × (value : ℕ) × IsCounted g c k t (answers.Worn z value) s.history
+worn_of g s c k a t found stands at way same needs =
+    let worn = refusal_worn way.task way.answer way.entry found way.allows (and_parts (is_by c k way.entry) (refuses found way.entry) way.passes).1 (ap needed same ∙ needs) in
+    let given : Answer = answers.Worn worn.0 worn.1 in
+    let coming : known_answers (caller.Agent a) ≡ a.answers ++ given ∷ [] = ap (λ (st : Stage). a.answers ++ coming_at st) (way.worn worn.0 worn.1 worn.2 ∙ ap stage.Releasing worn.2) in
     let there : slice_get (known_answers (caller.Agent a)) (length a.answers) ≡ Some given = ap (λ (xs : List Answer). slice_get xs (length a.answers)) coming ∙ get_after a.answers given in
-    (worn.0, worn.1, subst (λ (m : ℕ). IsCounted g c m t given s.history) (sym number) (stands.counted c (length a.answers) (caller.Agent a) t given at next there))
+    (worn.0, worn.1, subst (λ (m : ℕ). IsCounted g c m t given s.history) (sym way.number) (stands.counted c (length a.answers) (caller.Agent a) t given at (way.next ∙ ap Some same) there))
 
 pub worn_told : (g : GeometryData) (s : Scene) (tasks : List (List Task)) → HoldsIn g s → HaveTasks tasks s.callers → AreMade g s.callers → AreWorn g tasks (map caller_answers s.callers) s.history
 worn_told g s tasks stands have made before after c k granule found t parts asked none needs =
     let e = entry.Refused c k granule found in
     let one = unanswered g s.first s.callers s.history before after e c k (refused_by c k found) stands.history made none (λ x passes. (and_parts (is_by c k x) (refuses found x) passes).0) parts
     (rw (eq-eqb c c refl, eq-eqb k k refl) (eq-eqb (value_of found) (value_of found) refl)) in
-    let is = made c one.agent one.at in
     let own : slice_get one.agent.tasks k ≡ Some t = rw (have c one.agent one.at) at asked in
     let same : one.way.task ≡ t = let both : Some one.way.task ≡ Some t = sym one.way.next ∙ ap (slice_get one.agent.tasks) (sym one.way.number) ∙ own in cc in
-    worn_of g s c k one.agent t found is.3.last stands one.at is.0 (one.way.next ∙ ap Some same) one.way.number needs
-    (subst (λ (o : Option Task). IsPrefix one.agent.geometry c (length one.agent.answers) one.agent.stage o is.3.last) (one.way.next ∙ ap Some same) is.3.under_way)
-    (subst (λ (u : Task). list_any (refused_by c k found) (entries_at one.agent.geometry c (length one.agent.answers) one.agent.stage (Some u)) ≡ true) same one.way.some)
+    worn_of g s c k one.agent t found stands one.at one.way same needs

@@ -3,28 +3,23 @@ use Rattle.std.proofs.Common.{◌≡◌, ℕ, zero, suc, ◌+◌, ◌*◌, ◌/�
 use Rattle.std.specs.Prelude.{slice_get, slice_index}
 use Rattle.std.proofs.lemmas.Bool.{cases_Bool, ltb-true, ltb-false}
 use Rattle.std.proofs.lemmas.Nat.{div-add-mod', mod_below}
-use Rattle.gpi_values.specs.declared.gpi.Gpi.{Gpi}
-use Rattle.gpt_descriptors.specs.declared.size.Size.{Size}
-use Rattle.gpt_descriptors.specs.declared.size.Size.TheVariants as size
-use Rattle.gpt_descriptors.specs.declared.size.Generations.{Generations}
-use Rattle.gpt_descriptors.specs.declared.entry.L1Entry.TheVariants as l1
+use Rattle.core_machine.proofs.Names.{Gpi, Size, Generations, SetupData, words_of, size_bytes, canonical_word, l1_index, GeometryData, WordName, Level1, place_of, l0_words, l1_words, l1_index_of, Act, Fusing, Testing, Storing, Ended, Holder, Step, apart_by, AreWords, Facts, Keeps, step_of, Task, Kept, Stage, address_of, granule_of_task, AgentData, IsStage, goes_to, HoldsIn, Scene, scene_after, map_in, known_at, SeesGeneration, SeesAt, coming_at, IsMade}
+use Rattle.core_machine.proofs.Names.size
+use Rattle.core_machine.proofs.Names.l1
+use Rattle.core_machine.proofs.Names.act
+use Rattle.core_machine.proofs.Names.fuse
+use Rattle.core_machine.proofs.Names.answer
+use Rattle.core_machine.proofs.Names.stage
+use Rattle.core_machine.proofs.Names.caller
 use Rattle.gpt_descriptors.specs.declared.size.MaxBlock.{MaxBlock}
-use Rattle.gpt_descriptors.specs.Sizes.{SetupData, words_of, size_bytes}
 use Rattle.gpt_descriptors.specs.Entries.{l1_word}
 use Rattle.gpt_descriptors.specs.Fields.{granules_of}
-use Rattle.gpt_descriptors.specs.Canonical.{canonical_word}
-use Rattle.gpt_descriptors.specs.Level0.{l1_index}
-use Rattle.gpt_descriptors.specs.Places.{GeometryData, WordName, Level1, place_of, l0_words, l1_words, l1_index_of}
 use Rattle.gpt_descriptors.proofs.PlaceLemmas.{place_below, generation_named}
 use Rattle.gpt_descriptors.proofs.CanonicalLemmas.{words_some}
-use Rattle.shared_words.specs.declared.act.Act.{Act}
-use Rattle.shared_words.specs.declared.act.Act.TheVariants as act
-use Rattle.table_meaning.specs.declared.fusing.Fusing.{Fusing}
-use Rattle.table_meaning.specs.declared.fusing.Fusing.TheVariants.{Testing, Storing, Ended}
 use Rattle.table_meaning.specs.Splitting.{block_start, split_around}
 use Rattle.table_meaning.specs.Fusing.{block_words, loads_of, load_at, store_at, loaded, stored}
-use Rattle.table_meaning.specs.Equation.{Holder, Step, Splitting, Apart, apart_by, AreWords}
-use Rattle.table_meaning.specs.Facts.{Facts, Keeps, Merges, step_of, merging_step}
+use Rattle.table_meaning.specs.Equation.{Splitting, Apart}
+use Rattle.table_meaning.specs.Facts.{Merges, merging_step}
 use Rattle.table_meaning.proofs.PlaceLemmas.{block_index, load_index, store_index, own_rest}
 use Rattle.table_meaning.proofs.EquationLemmas.{holder_set_same, alone_stays}
 use Rattle.table_meaning.proofs.FusingLemmas.{block_words_is}
@@ -33,31 +28,15 @@ use Rattle.table_meaning.proofs.StepLemmas.{holder_reads, split_store, split_end
 use Rattle.shatter.specs.Splitting.{SplittingData, store_of, next_store, advanced, split_word}
 use Rattle.shatter.proofs.WordLemmas.{split_word_is}
 use Rattle.fuse.specs.Merging.{FuseData}
-use Rattle.fuse.specs.Merging as fuse
-use Rattle.history.specs.declared.call.Task.{Task}
-use Rattle.history.specs.declared.call.Answer.TheVariants as answer
-use Rattle.delegate_ops.specs.declared.stage.Kept.{Kept}
-use Rattle.delegate_ops.specs.declared.stage.Stage.{Stage}
-use Rattle.delegate_ops.specs.declared.stage.Stage.TheVariants as stage
-use Rattle.delegate_ops.specs.Deciding.{address_of}
 use Rattle.delegate_ops.specs.Changing.{first_change, word_in_block}
-use Rattle.delegate_ops.specs.Script.{granule_of_task}
-use Rattle.delegate_ops.specs.InnerAgents.{AgentData, IsStage, IsSplittingOf, IsMergingOf, goes_to, split_stage, merging_stage, merged_stage}
+use Rattle.delegate_ops.specs.InnerAgents.{IsSplittingOf, IsMergingOf, split_stage, merging_stage, merged_stage}
 use Rattle.delegate_ops.proofs.AgentLemmas.{at_stage}
-use Rattle.core_machine.specs.declared.caller.Caller.TheVariants as caller
-use Rattle.core_machine.specs.InnerTables.{known_at}
-use Rattle.core_machine.specs.InnerSeen.{SeesGeneration, SeesSplit, SeesAt}
-use Rattle.core_machine.specs.InnerCounted.{coming_at}
-use Rattle.core_machine.specs.InnerInvariant.{IsMade}
-use Rattle.core_machine.specs.InnerScene.{Scene, HoldsIn, scene_after}
-use Rattle.core_machine.proofs.ChangeLemmas.{index_below, word_by_granule}
-use Rattle.core_machine.proofs.WordLemmas.{Writes, writes_none, writes_one, IsOfBlock, is_lock, is_idle, is_generation, generations_left, index_at}
-use Rattle.core_machine.proofs.StepLemmas.{map_in}
-use Rattle.core_machine.proofs.ActLemmas.{Acting, IsAlike, lock_of_task, inside_of, seen_of, goes_quietly}
-use Rattle.core_machine.proofs.HolderLemmas.{holders_of, canonical_gives, own_index, holder_at, alone_there, tables_after}
+use Rattle.core_machine.proofs.WordLemmas.{Writes, writes_none, writes_one, is_lock, is_idle, is_generation, generations_left}
+use Rattle.core_machine.proofs.ActLemmas.{Acting, IsAlike, inside_of, seen_of, goes_quietly, holders_of, own_index, holder_at, alone_there, tables_after}
 use Rattle.core_machine.proofs.LockActs.{ActKeeps}
 use Rattle.core_machine.proofs.LoadActs.{first_from, first_entries, load_keeps}
 use Rattle.core_machine.proofs.RaiseActs.{merging_step_of}
+use Rattle.core_machine.proofs.AddressLemmas.{index_below, word_by_granule, index_at}
 
 -- ---- splitting
 
@@ -85,10 +64,10 @@ set_twice (h ∷ hs) (suc c) x y = ap (λ (rest : List Holder). h ∷ rest) (set
 split_goes : {s : Scene} {c : ℕ} {a : AgentData} {t : Task} {z : Size} {d : SplittingData} {k : Generations} (acting : Acting s c a t (stage.Splitting z d k)) (next : Stage) (j v : ℕ) → IsAlike a.geometry c (length a.answers) t (stage.Splitting z d k) next → coming_at next ≡ []
     → IsMade a.geometry (caller.Agent (goes_to (at_stage a (stage.Splitting z d k)) next)) → j < l1_words a.geometry
     → AreWords a.geometry (map_in s) (apart_by a.geometry.setup (set (holders_of s.callers) c (record { granule = granule_of_task a.geometry t; step = step_of (known_at next) }))) (set s.words (place_of a.geometry (Level1 j)) v)
-    → SeesAt a.geometry (map_in s) (set s.words (place_of a.geometry (Level1 j)) v) next (Some t)
+    → SeesAt a.geometry (map_in s) (set s.words (place_of a.geometry (Level1 j)) v) t next
     → HoldsIn a.geometry (scene_after s c (caller.Agent (goes_to (at_stage a (stage.Splitting z d k)) next)) (set s.words (place_of a.geometry (Level1 j)) v) [])
 split_goes {s = s} {a = a} acting next j v alike none made within are sees =
-    goes_quietly acting next (Some (Level1 j)) (set s.words (place_of a.geometry (Level1 j)) v) alike made (writes_one a.geometry s.words (Level1 j) v within) tt refl refl refl (tables_after acting next _ are) sees
+    goes_quietly acting next (Some (Level1 j)) (set s.words (place_of a.geometry (Level1 j)) v) alike made (writes_one a.geometry s.words (Level1 j) v within) refl refl refl (tables_after acting next (map_in s) _ are) sees
     (λ given is. absurd (let both : [] ≡ given ∷ [] = sym none ∙ is in cc))
 
 -- the words after a store, by its place and its word
@@ -108,7 +87,7 @@ split_holds {s = s} {c = c} {a = a} {t = t} z d k i acting low whole index =
     let there : l1_index g.setup (l0_words g) (block_start g.setup z w + d.made) ≡ Some j = block_index g.setup (l0_words g) z w i d.made (own_index acting i index) low in
     let within : j < l1_words g = index_below g (block_start g.setup z w + d.made) j acting.stands.shape.geometry there in
     let fits : place_of g (Level1 j) < length s.words = subst (λ (m : ℕ). place_of g (Level1 j) < m) (sym acting.stands.shape.size) (place_below g (Level1 j) within) in
-    let sees : SeesSplit g (map_in s) s.words t z d k = seen_of acting in
+    let sees = seen_of acting in
     let writes = writes_one g s.words (Level1 j) v within in
     let generations : (y : Size) → SeesGeneration g after t k y = λ y. generations_left writes refl y (address_of t / size_bytes y) (generation_named g y (address_of t) (inside_of acting)) ∙ sees.generations y in
     let known = split_more g.setup (map_in s) granule z d.gpi d.made sees.known low in
@@ -119,7 +98,7 @@ split_holds {s = s} {c = c} {a = a} {t = t} z d k i acting low whole index =
       | inl more ↦
           rw more
           (split_goes acting (stage.Splitting z (advanced d) k) j v (record { inside = refl; stays = refl; opened = refl; due = λ y. refl; front = refl }) refl (rw more at made) within are
-          (record { known = known; needs = sees.needs; generations = generations }))
+          (record { known = known; gives = sees.gives; generations = generations }))
       | inr over ↦
           (let last : d.made + 1 ≡ n = omega (arith, low, whole, ltb-false _ _ over) in
           let kept : Kept = record { word = granules_of d.gpi; generations = k } in
@@ -132,11 +111,7 @@ split_holds {s = s} {c = c} {a = a} {t = t} z d k i acting low whole index =
           rw over
           (split_goes acting (stage.Changing (first_change t) kept) j v (record { inside = refl; stays = refl; opened = refl; due = λ y. refl; front = first_entries g c (length a.answers) t kept }) refl (rw over at made) within
           (subst (λ (all : List Holder). AreWords g (map_in s) (apart_by g.setup all) after) (set_twice hs c _ _) ended)
-          (record {
-            known = word;
-            gives = canonical_gives g.setup (map_in s) (Some granule) granule (granules_of d.gpi) word ∙ ap Some (sees.known.1 granule refl ∙ sym (first_from t d.gpi sees.needs));
-            generations = generations;
-          })))
+          (record { known = word; gives = first_from t (map_in s granule) sees.gives; generations = generations })))
     ]
 
 pub split_keeps : {s : Scene} {c : ℕ} {a : AgentData} {t : Task} (z : Size) (d : SplittingData) (k : Generations) (next : Act) (acting : Acting s c a t (stage.Splitting z d k)) → next_store d ≡ Some next → ActKeeps s c a t (stage.Splitting z d k) next
@@ -170,21 +145,21 @@ merged_alike : (g : GeometryData) (c n : ℕ) (t : Task) (f e : FuseData) (k : G
 merged_alike g c n t f e k None = record { inside = refl; stays = refl; opened = refl; due = λ y. refl; front = refl }
 merged_alike g c n t f e k (Some next) = record { inside = refl; stays = refl; opened = refl; due = λ y. refl; front = refl }
 
-merged_sees : (g : GeometryData) (m : ℕ → Gpi) (words : List ℕ) (t : Task) (f : FuseData) (k : Generations) (o : Option Act) → Facts g.setup m (granule_of_task g t) (Merges f.gpi f.step) → SeesAt g m words (merging_stage o f k) (Some t)
-merged_sees g m words t f k None known = tt
-merged_sees g m words t f k (Some next) known = known
+merged_sees : (g : GeometryData) (m : ℕ → Gpi) (words : List ℕ) (t : Task) (f : FuseData) (k : Generations) (o : Option Act) → Facts g.setup m (granule_of_task g t) (Merges f.gpi f.step) → SeesAt g m words t (merging_stage o f k)
+merged_sees g m words t f k None known = record { known = tt; gives = tt; generations = tt }
+merged_sees g m words t f k (Some next) known = record { known = known; gives = tt; generations = tt }
 
 -- after a load or a store that leaves merging here
-merged_holds : {s : Scene} {c : ℕ} {a : AgentData} {t : Task} {f : FuseData} {k : Generations} (acting : Acting s c a t (stage.Merging f k)) (e : FuseData) (n : Option WordName) (after : List ℕ) → Writes a.geometry s.words n after → IsOfBlock a.geometry (lock_of_task a t) n
+merged_holds : {s : Scene} {c : ℕ} {a : AgentData} {t : Task} {f : FuseData} {k : Generations} (acting : Acting s c a t (stage.Merging f k)) (e : FuseData) (n : Option WordName) (after : List ℕ) → Writes a.geometry s.words n after
     → is_lock n ≡ false → is_idle n ≡ false → is_generation n ≡ false → IsMade a.geometry (caller.Agent (goes_to (at_stage a (stage.Merging f k)) (merged_stage e k)))
     → AreWords a.geometry (map_in s) (apart_by a.geometry.setup (set (holders_of s.callers) c (record { granule = granule_of_task a.geometry t; step = merging_step e.step }))) after
     → Facts a.geometry.setup (map_in s) (granule_of_task a.geometry t) (Merges e.gpi e.step)
     → HoldsIn a.geometry (scene_after s c (caller.Agent (goes_to (at_stage a (stage.Merging f k)) (merged_stage e k))) after [])
-merged_holds {s = s} {c = c} {a = a} {t = t} {f = f} {k = k} acting e n after writes block no_lock idle no_generation made are known =
+merged_holds {s = s} {c = c} {a = a} {t = t} {f = f} {k = k} acting e n after writes no_lock idle no_generation made are known =
     let g = a.geometry in
     let next = merged_stage e k in
-    goes_quietly acting next n after (merged_alike g c (length a.answers) t f e k (fuse.next_of e)) made writes block no_lock idle no_generation
-    (tables_after acting next after
+    goes_quietly acting next n after (merged_alike g c (length a.answers) t f e k (fuse.next_of e)) made writes no_lock idle no_generation
+    (tables_after acting next (map_in s) after
     (subst (λ (x : Step). AreWords g (map_in s) (apart_by g.setup (set (holders_of s.callers) c (record { granule = granule_of_task g t; step = x }))) after) (sym (merging_step_of e k (fuse.next_of e) refl)) are))
     (merged_sees g (map_in s) after t e k (fuse.next_of e) known)
     (λ given is. sym (merged_coming (fuse.next_of e) e k) ∙ is)
@@ -207,14 +182,14 @@ merge_by {s = s} {c = c} {a = a} {t = t} first own two max v (Testing z j) k nex
     ap (slice_index s.words) place
     ∙ holder_reads g (map_in s) (holders_of s.callers) c granule Apart s.words (load_at (words_of g.setup size.Two) w z j) (load_at (words_of g.setup size.Two) is.index z j) (holder_at acting) (alone_there acting refl) index
     (sym (load_inside g.setup w z j low)) acting.stands.tables.level1 in
-    let known : Facts g.setup (map_in s) granule (Merges v (Testing z j)) = seen_of acting in
+    let known : Facts g.setup (map_in s) granule (Merges v (Testing z j)) = (seen_of acting).known in
     let after : Facts g.setup (map_in s) granule (Merges v (loaded two max v z j word)) =
     subst (λ (x : Fusing). Facts g.setup (map_in s) granule (Merges v x))
     (sym (ap (λ (n : ℕ). loaded n max v z j word) is.two ∙ ap (λ (x : MaxBlock). loaded (words_of g.setup size.Two) x v z j word) is.max)) (loads g.setup (map_in s) granule v z j word reads known) in
     let load : act.Load (first + load_at two own z j) ≡ next = cc in
     subst (ActKeeps s c a t (stage.Merging f k)) load
     (load_keeps s c a t (stage.Merging f k) (first + load_at two own z j) tt
-    (merged_holds acting (fuse.took_of f word) None s.words (writes_none g s.words) tt refl refl refl (acting.made word)
+    (merged_holds acting (fuse.took_of f word) None s.words (writes_none g s.words) refl refl refl (acting.made word)
     (load_words g (map_in s) (holders_of s.callers) c granule v (loaded two max v z j word) s.words (holder_at acting) (alone_there acting refl) (loaded_unstored two max v z j word) after.1 acting.stands.tables.level1)
     after))
 merge_by {s = s} {c = c} {a = a} {t = t} first own two max v (Storing z j) k next acting is there =
@@ -229,14 +204,14 @@ merge_by {s = s} {c = c} {a = a} {t = t} first own two max v (Storing z j) k nex
     let within : i < l1_words g = index_below g (block_start g.setup z w + j) i acting.stands.shape.geometry index in
     let fits : place_of g (Level1 i) < length s.words = subst (λ (m : ℕ). place_of g (Level1 i) < m) (sym acting.stands.shape.size) (place_below g (Level1 i) within) in
     let word : ℕ = l1_word (l1.Contig z v) in
-    let known : Facts g.setup (map_in s) granule (Merges v (Storing z j)) = seen_of acting in
+    let known : Facts g.setup (map_in s) granule (Merges v (Storing z j)) = (seen_of acting).known in
     let after : Facts g.setup (map_in s) granule (Merges v (stored two z j)) = rw is.two (stores g.setup (map_in s) granule v z j low known) in
     let are = merge_store g (map_in s) (holders_of s.callers) c granule z j i v s.words (holder_at acting) (alone_there acting refl) known.1.0 (own_gpi g.setup (map_in s) granule v known.0) low index fits acting.stands.tables.level1 in
     let store : act.Store (first + store_at two own z j) word ≡ next = cc in
     subst (ActKeeps s c a t (stage.Merging f k)) store (
       tt,
       subst (λ (p : ℕ). HoldsIn g (scene_after s c (caller.Agent (goes_to (at_stage a (stage.Merging f k)) (merged_stage (fuse.took_of f 0) k))) (set s.words p word) [])) (sym place)
-          (merged_holds acting (fuse.took_of f 0) (Some (Level1 i)) (set s.words (place_of g (Level1 i)) word) (writes_one g s.words (Level1 i) word within) tt refl refl refl (acting.made 0)
+          (merged_holds acting (fuse.took_of f 0) (Some (Level1 i)) (set s.words (place_of g (Level1 i)) word) (writes_one g s.words (Level1 i) word within) refl refl refl (acting.made 0)
           (subst (λ (n : ℕ). AreWords g (map_in s) (apart_by g.setup (set (holders_of s.callers) c (record { granule = granule; step = merging_step (stored n z j) }))) (set s.words (place_of g (Level1 i)) word)) (sym is.two) are)
           after),
     )

@@ -3,12 +3,10 @@ use Rattle.std.proofs.Common.{◌≡◌, false, List, [], ◌∷◌, map, refl, 
 use Rattle.std.specs.List.{All}
 use Rattle.std.proofs.lemmas.Bool.{cases_Bool}
 use Rattle.std.proofs.lemmas.List.Elements.{All-nil, All-cons}
+use Rattle.core_machine.proofs.Names.{Task, is_look, task_of_ask}
 use Rattle.scenario_text.specs.declared.scenario.Ask.{Ask}
 use Rattle.scenario_text.specs.declared.scenario.Ask.TheVariants as ask
 use Rattle.rmm_calls.specs.Codes.{is_admitted}
-use Rattle.history.specs.declared.call.Task.{Task}
-use Rattle.delegate_ops.specs.InnerAgents.{is_look}
-use Rattle.core_machine.specs.Scenarios.{task_of_ask}
 
 ask_no_look : (a : Ask) → is_look (task_of_ask a) ≡ false
 ask_no_look (ask.Delegate pa source) = refl

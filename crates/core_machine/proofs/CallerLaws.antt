@@ -1,35 +1,16 @@
 -- The laws of callers that running words need.
-use Rattle.std.proofs.Common.{◌≡◌, ℕ, ◌<◌, true, false, Option, Some, None, sym, refl, ap, ◌∙◌, subst, inl, inr}
-use Rattle.std.specs.Prelude.{slice_get, option_and_then}
-use Rattle.gpt_descriptors.specs.Places.{GeometryData, IsGeometry, word_count}
-use Rattle.shared_words.specs.declared.act.Act.{Act}
-use Rattle.shared_words.specs.Acts.{place_in}
-use Rattle.bit_locks.specs.Locks.{lock_number}
-use Rattle.history.specs.declared.call.Task.{Task}
-use Rattle.delegate_ops.specs.Deciding.{address_of, idle_answer}
-use Rattle.delegate_ops.specs.InnerAgents.{AgentData, HasActs, IsStage, task_of, act_at}
-use Rattle.delegate_ops.proofs.DecidingLemmas.{acts_inside}
+use Rattle.std.proofs.Common.{◌≡◌, ℕ, true, false, Some, None, sym, refl, ap, ◌∙◌, subst, inl, inr}
+use Rattle.std.specs.Prelude.{slice_get}
+use Rattle.core_machine.proofs.Names.{GeometryData, lock_number, Task, address_of, idle_answer, AgentData, HasActs, task_of, Caller, is_inside, holds}
+use Rattle.core_machine.proofs.Names.caller
 use Rattle.delegate_ops.proofs.AgentLemmas.{took_is_agent}
 use Rattle.delegate_ops.proofs.NextLemmas.{next_there}
-use Rattle.core_machine.specs.declared.caller.Caller.TheVariants as caller
-use Rattle.core_machine.specs.InnerLocks.{is_inside, holds}
-use Rattle.core_machine.specs.InnerCallerLaws.{ActsHavePlaces, ActsKeepTheirCaller, AgentsGoOn, WaitsHaveCauses}
-use Rattle.core_machine.proofs.ActLemmas.{lock_low, held_number}
-use Rattle.core_machine.proofs.LawLemmas.{took_leaves, act_low}
+use Rattle.core_machine.specs.InnerCallerLaws.{ActsKeepTheirCaller, AgentsGoOn, WaitsHaveCauses}
+use Rattle.core_machine.proofs.AddressLemmas.{task_low}
+use Rattle.core_machine.proofs.CallerLemmas.{agent_inside, made_at_place}
+use Rattle.core_machine.proofs.LawLemmas.{took_leaves}
 use Rattle.core_machine.proofs.FitLemmas.{took_tasks}
-use Rattle.core_machine.proofs.OthersLemmas.{made_at_place}
-use Rattle.core_machine.proofs.RunLemmas.{some_or_none}
-
--- ---- places
-
-place_of_task : (a : AgentData) (o : Option Task) (next : Act) → IsGeometry a.geometry → HasActs a.geometry o → IsStage a.geometry a.stage o → option_and_then (act_at a.geometry a.stage) o ≡ Some next → place_in next < word_count a.geometry
-place_of_task a None next geometry acts fits e = absurd cc
-place_of_task a (Some t) next geometry acts fits e = act_low a.geometry t a.stage next geometry acts fits e
-
-pub acts_have_places : ActsHavePlaces
-acts_have_places g (caller.Agent a) next made e =
-    subst (λ (k : GeometryData). place_in next < word_count k) made.0 (place_of_task a (task_of a) next made.1.geometry made.1.acts made.1.stage e)
-acts_have_places g (caller.Cpu looks) next made e = absurd cc
+use Rattle.core_machine.proofs.ListLemmas.{some_or_none}
 
 -- ---- what an act keeps
 
@@ -42,29 +23,33 @@ agents_go_on a is left = rw (next_there a is, left) refl
 
 -- ---- waiting
 
+-- whoever holds a lock is an agent inside a task of that lock
+held_by : (n : ℕ) (y : Caller) → holds n y ≡ true → (b : AgentData) × (u : Task) × (y ≡ caller.Agent b) × (task_of b ≡ Some u) × (lock_number b.geometry.setup (address_of u) ≡ n) × (is_inside b.stage ≡ true)
+held_by n (caller.Cpu looks) has = absurd cc
+held_by n (caller.Agent b) has = let inside = agent_inside b n has in (b, inside.0, refl, inside.1, inside.2, inside.3)
+
 pub waits_have_causes : WaitsHaveCauses
 waits_have_causes g s c a t stands at locking under_way bit =
     let n = lock_number g.setup (address_of t) in
-    let made = made_at_place g s.first s.words s.callers c (caller.Agent a) stands.shape at in
+    let made = made_at_place g s c (caller.Agent a) stands at in
     let acts : idle_answer g t ≡ None = subst (λ (k : GeometryData). idle_answer k t ≡ None) made.0 (subst (HasActs a.geometry) under_way made.1.acts) in
-    let low : n < 128 = lock_low g.setup (address_of t) stands.shape.geometry.setup (acts_inside g t acts) in
     elim (some_or_none (holds n) s.callers) [
-      | inl none ↦ absurd (bit (stands.locks n low ∙ none))
+      | inl none ↦ absurd (bit (stands.locks n (task_low g t acts stands.shape.geometry.setup) ∙ none))
       | inr some ↦
-          (let holder = held_number g s.callers some.0 n some.1 some.2 (made_at_place g s.first s.words s.callers some.0 some.1 stands.shape some.2) some.3 in
-          let agent = holder.0 in (
+          (let holder = held_by n some.1 some.3 in
+          let there : slice_get s.callers some.0 ≡ Some (caller.Agent holder.0) = some.2 ∙ ap Some holder.2 in
+          let theirs = made_at_place g s some.0 (caller.Agent holder.0) stands there in (
             some.0,
-            agent,
+            holder.0,
             holder.1,
             (λ same.
-                let there : slice_get s.callers c ≡ Some (caller.Agent agent) = subst (λ (i : ℕ). slice_get s.callers i ≡ Some (caller.Agent agent)) same holder.2.at in
-                let mine : a ≡ agent = (let both : Some (caller.Agent a) ≡ Some (caller.Agent agent) = sym at ∙ there in cc) in
+                let mine : a ≡ holder.0 = (let both : Some (caller.Agent a) ≡ Some (caller.Agent holder.0) = sym at ∙ ap (slice_get s.callers) (sym same) ∙ there in cc) in
                 let outside : is_inside a.stage ≡ false = rw locking refl in
-                let both : true ≡ false = sym holder.2.inside ∙ ap (λ (x : AgentData). is_inside x.stage) (sym mine) ∙ outside in
+                let both : true ≡ false = sym holder.5 ∙ ap (λ (x : AgentData). is_inside x.stage) (sym mine) ∙ outside in
                 cc),
-            holder.2.at,
-            holder.2.inside,
-            holder.2.under_way,
+            there,
+            holder.5,
             holder.3,
+            ap (λ (k : GeometryData). lock_number k.setup (address_of holder.1)) (sym theirs.0) ∙ holder.4,
           ))
     ]

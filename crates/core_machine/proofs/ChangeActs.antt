@@ -1,45 +1,28 @@
 -- The change of a granule.
-use Rattle.std.proofs.Common.{◌≡◌, ◌≢◌, ℕ, ◌+◌, ◌/◌, ◌%◌, ◌<◌, ◌∷◌, [], List, Bool, true, not, eqb, Some, None, length, set, refl, sym, ap, ◌∙◌, subst, arith}
-use Rattle.std.proofs.lemmas.List.{get_or-set_same, get_or-set_other}
+use Rattle.std.proofs.Common.{◌≡◌, ◌≢◌, ℕ, ◌+◌, ◌/◌, ◌%◌, ◌<◌, ◌∷◌, [], List, Bool, true, not, eqb, Some, length, set, refl, sym, ap, ◌∙◌, subst, arith}
+use Rattle.std.proofs.lemmas.List.{get_or-set_same}
 use Rattle.std.proofs.lemmas.Option.{slice_get_within}
-use Rattle.gpi_values.specs.declared.gpi.Gpi.{Gpi}
-use Rattle.gpi_values.specs.declared.gpi.Gpi.TheVariants as gpi
-use Rattle.gpi_values.specs.Values.{value_of}
+use Rattle.core_machine.proofs.Names.{Gpi, value_of, Holder, apart_by, AreWords, Facts, Keeps, Size, granule_bytes, size_bytes, Level1, place_of, l1_words, l1_index_of, l1_place_of, Task, region_of, Change, Kept, address_of, AgentData, goes_to, Scene, state_in, scene_after, map_in, map_at, granule_of_task, generation_word, comes_before, HoldsIn}
+use Rattle.core_machine.proofs.Names.gpi
+use Rattle.core_machine.proofs.Names.size
+use Rattle.core_machine.proofs.Names.act
+use Rattle.core_machine.proofs.Names.stage
+use Rattle.core_machine.proofs.Names.caller
 use Rattle.gpt_descriptors.specs.Fields.{with_field}
-use Rattle.gpt_descriptors.specs.Level0.{l1_index}
-use Rattle.table_meaning.specs.Equation.{Holder, Apart, apart_by, AreWords}
-use Rattle.table_meaning.specs.Facts.{Facts, Keeps}
+use Rattle.table_meaning.specs.Equation.{Apart}
 use Rattle.table_meaning.proofs.FactLemmas.{changes}
 use Rattle.table_meaning.proofs.StepLemmas.{change_store}
-use Rattle.gpt_descriptors.specs.declared.size.Size.{Size}
-use Rattle.gpt_descriptors.specs.declared.size.Size.TheVariants as size
-use Rattle.gpt_descriptors.specs.Sizes.{granule_bytes, size_bytes}
-use Rattle.gpt_descriptors.specs.Places.{Level1, place_of, l0_words, l1_words, l1_index_of, l1_place_of}
 use Rattle.gpt_descriptors.proofs.PlaceLemmas.{index_within, place_below, generation_named}
-use Rattle.shared_words.specs.declared.act.Act.TheVariants as act
-use Rattle.history.specs.declared.call.Task.{Task}
-use Rattle.history.specs.Counts.{region_of}
-use Rattle.delegate_ops.specs.declared.stage.Change.{Change}
-use Rattle.delegate_ops.specs.declared.stage.Kept.{Kept}
-use Rattle.delegate_ops.specs.declared.stage.Stage.TheVariants as stage
-use Rattle.delegate_ops.specs.Deciding.{address_of}
-use Rattle.delegate_ops.specs.Changing.{from_of, to_of, changed_word}
-use Rattle.delegate_ops.specs.InnerAgents.{AgentData, kept_changed, goes_to}
+use Rattle.delegate_ops.specs.Changing.{to_of, changed_word}
+use Rattle.delegate_ops.specs.InnerAgents.{kept_changed}
 use Rattle.delegate_ops.proofs.AgentLemmas.{at_stage}
-use Rattle.core_machine.specs.declared.caller.Caller.TheVariants as caller
-use Rattle.core_machine.specs.InnerSeen.{comes_before, SeesAll}
-use Rattle.core_machine.specs.InnerScene.{Scene, state_in, HoldsIn, scene_after}
 use Rattle.core_machine.proofs.ListLemmas.{one}
-use Rattle.core_machine.proofs.WordLemmas.{writes_one, generations_left, index_at}
-use Rattle.core_machine.proofs.OpenedLemmas.{opened_change}
-use Rattle.core_machine.proofs.ActLemmas.{Acting, inside_of, lock_of_task, mades_of, other_lock, closed_of, granule_closed, seen_of, goes_keeps}
+use Rattle.core_machine.proofs.WordLemmas.{writes_one, generations_left}
+use Rattle.core_machine.proofs.ActLemmas.{Acting, inside_of, granule_closed, seen_of, goes_keeps, holders_of, map_has, own_index, holder_at, alone_there, tables_after}
+use Rattle.core_machine.proofs.StepLemmas.{map_elsewhere}
 use Rattle.core_machine.proofs.LockActs.{ActKeeps}
-use Rattle.core_machine.specs.Scenarios.{map_at}
-use Rattle.core_machine.proofs.StepLemmas.{map_in}
-use Rattle.core_machine.proofs.OthersLemmas.{others_see}
-use Rattle.core_machine.proofs.HolderLemmas.{holders_of, canonical_gives, map_has, own_index, holder_at, holders_after, alone_there, others_agree}
-use Rattle.delegate_ops.specs.Script.{change_entry, granule_of_task}
-use Rattle.core_machine.specs.Facts.{generation_word}
+use Rattle.delegate_ops.specs.Script.{change_entry}
+use Rattle.core_machine.proofs.AddressLemmas.{index_at}
 
 change_one : (word : ℕ) (b : Bool) → word + one b ≡ word + 0 + one b
 change_one word b = omega arith
@@ -51,9 +34,6 @@ due_two y = refl
 -- the map after the change, at its granule and elsewhere
 changed_own : (map : List Gpi) (granule : ℕ) (to : Gpi) → granule < length map → map_at (set map granule to) granule ≡ to
 changed_own map granule to within = get_or-set_same map granule to gpi.Any within
-
-changed_other : (map : List Gpi) (granule : ℕ) (to : Gpi) (k : ℕ) → k ≢ granule → map_at map k ≡ map_at (set map granule to) k
-changed_other map granule to k other = sym (get_or-set_other map granule k to gpi.Any other)
 
 change_holds : {s : Scene} {c : ℕ} {a : AgentData} {t : Task} (i : ℕ) (ch : Change) (k : Kept) (acting : Acting s c a t (stage.Changing ch k)) → l1_index_of a.geometry (address_of t) ≡ Some i
     → HoldsIn a.geometry (scene_after s c (caller.Agent (goes_to (at_stage a (stage.Changing ch k)) (stage.Raising ch size.Two (kept_changed a.geometry t ch k))))
@@ -75,10 +55,9 @@ change_holds {s = s} {c = c} {a = a} {t = t} i ch k acting index =
     let within : i < l1_words g = index_within g pa i stands.shape.geometry index in
     let writes = writes_one g s.words (Level1 i) (changed_word g t ch k.word) within in
     let low : place < length s.words = subst (λ (n : ℕ). place < n) (sym stands.shape.size) (place_below g (Level1 i) within) in
-    let sees : SeesAll g (map_in s) s.words t (from_of t ch) k = seen_of acting in
-    let from : Some (from_of t ch) ≡ Some (map_in s granule) = sym sees.gives ∙ canonical_gives g.setup (map_in s) (Some granule) granule k.word sees.known in
+    let sees = seen_of acting in
     let own : l granule ≡ to = changed_own map granule to (slice_get_within map granule (map_in s granule) (map_has acting)) in
-    let other : (n : ℕ) → n ≢ granule → map_in s n ≡ l n = changed_other map granule to in
+    let other : (n : ℕ) → n ≢ granule → map_in s n ≡ l n = map_elsewhere (state_in s) e in
     let known : Facts g.setup l granule (Keeps (changed_word g t ch k.word)) =
     subst (λ (v : Gpi). Facts g.setup l granule (Keeps (with_field k.word (granule % 16) (value_of v)))) own (changes g.setup (map_in s) l granule k.word other sees.known) in
     let are : AreWords g l (apart_by g.setup (set hs c (record { granule = granule; step = Apart }))) after =
@@ -90,20 +69,15 @@ change_holds {s = s} {c = c} {a = a} {t = t} i ch k acting index =
       stays = refl;
       made = acting.made 0;
       writes = writes;
+      block = λ m away. tt;
       no_lock = refl;
       idle = refl;
-      entry = record { caller = refl; call = refl; granule = refl; allowed = (map_has acting ∙ sym from, granule_closed acting refl refl) };
-      tables = record {
-        level1 = subst (λ (all : List Holder). AreWords g l (apart_by g.setup all) after) (sym (holders_after acting next)) are;
-        blocks = λ n inside none.
-            stands.tables.blocks n inside none ∙ ap Some (other n (λ same. absurd (let both : None ≡ Some i = sym none ∙ ap (λ (x : ℕ). l1_index g.setup (l0_words g) (x / 16)) same ∙ own_index acting i index in cc)));
-      };
-      others = λ d y apart at. others_see (map_in s) l s.callers d (lock_of_task a t) y writes tt (mades_of acting d y at) at
-          (λ b u theirs. let away = other_lock acting refl d b u apart theirs in (away, others_agree acting refl l other u away)) (stands.seen d y at);
-      opened = opened_change (state_in s).opened _ s.callers c granule (from_of t ch) (caller.Agent me) (caller.Agent (goes_to me next)) acting.at stands.opened refl refl (rw acting.under_way refl) (closed_of acting refl);
+      entry = record { caller = refl; call = refl; granule = refl; allowed = (map_has acting ∙ ap Some (sym sees.gives), granule_closed acting refl refl) };
+      words = tables_after acting next l after are;
+      opened = refl;
       seen = record {
         known = known;
-        gives = canonical_gives g.setup l (Some granule) granule (changed_word g t ch k.word) known ∙ ap Some own;
+        gives = sym own;
         generations = λ y. generations_left writes refl y (pa / size_bytes y) (generation_named g y pa (inside_of acting)) ∙ sees.generations y;
       };
       raised = λ y region in_space. rw (generations_left writes refl y region in_space, due_two y) (change_one (generation_word g s.words y region) (eqb (region_of (granule_bytes g.setup) y granule) region));

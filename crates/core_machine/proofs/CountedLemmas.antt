@@ -1,26 +1,15 @@
 -- Answers keep their counts, and have them from their call's last entry on.
-use Rattle.std.proofs.Common.{◌≡◌, ℕ, ◌+◌, ◌++◌, ◌∷◌, [], List, Bool, false, ◌&&◌, cond, Option, Some, None, refl, sym, ap, ◌∙◌, subst, arith, append_assoc}
+use Rattle.std.proofs.Common.{◌≡◌, ℕ, ◌+◌, ◌++◌, ◌∷◌, [], List, Bool, false, ◌&&◌, cond, Some, refl, ap, ◌∙◌, subst, arith, append_assoc}
 use Rattle.std.specs.Prelude.{◌==◌}
-use Rattle.std.specs.List.{count_by, find}
-use Rattle.std.specs.Option.{option_map}
+use Rattle.std.specs.List.{count_by}
 use Rattle.std.proofs.lemmas.List.Sums.{sum_by-append}
-use Rattle.gpi_values.specs.declared.gpi.Gpi.{Gpi}
-use Rattle.gpt_descriptors.specs.declared.size.Size.{Size}
-use Rattle.gpt_descriptors.specs.declared.size.Size.TheVariants as size
-use Rattle.gpt_descriptors.specs.declared.size.Generations.{Generations}
-use Rattle.gpt_descriptors.specs.Sizes.{granule_bytes}
-use Rattle.gpt_descriptors.specs.Places.{GeometryData}
-use Rattle.history.specs.declared.call.Task.{Task}
-use Rattle.history.specs.declared.call.Answer.{Answer}
-use Rattle.history.specs.declared.call.Answer.TheVariants as answer
-use Rattle.history.specs.declared.entry.Entry.{Entry}
-use Rattle.history.specs.declared.entry.Entry.TheVariants as entry
-use Rattle.history.specs.Entries.{granule_in}
-use Rattle.history.specs.Counts.{region_of, is_change, is_completion, count_of, counts_around, is_by, is_worn}
-use Rattle.delegate_ops.specs.Deciding.{generation_in, worn_answer}
+use Rattle.core_machine.proofs.Names.{Gpi, Size, Generations, granule_bytes, GeometryData, Task, Answer, Entry, granule_in, region_of, count_of, is_by, generation_in, worn_answer, IsCounted, granule_of_task}
+use Rattle.core_machine.proofs.Names.size
+use Rattle.core_machine.proofs.Names.answer
+use Rattle.core_machine.proofs.Names.entry
+use Rattle.history.specs.Counts.{is_change, is_completion, counts_around}
+use Rattle.delegate_ops.proofs.ScriptLemmas.{some_mapped}
 use Rattle.core_machine.proofs.ListLemmas.{one}
-use Rattle.core_machine.specs.Facts.{IsCounted}
-use Rattle.delegate_ops.specs.Script.{granule_of_task}
 
 -- ---- one entry more
 
@@ -74,11 +63,6 @@ pub done_counted : (g : GeometryData) (c k : ℕ) (t : Task) (given : Generation
     → IsCounted g c k t (answer.Done given) (h ++ entry.Settled c k (granule_of_task g t) ∷ [])
 done_counted g c k t given h counts = record { before = h; after = []; parts = refl; last = refl; counts = counts }
 
--- the first size that passes a test of generations, and its generation
-worn_found : (o : Option Size) (f : Size → ℕ) (a : Answer) → option_map (λ z. answer.Worn z (f z)) o ≡ Some a → (z : Size) × (o ≡ Some z) × (a ≡ answer.Worn z (f z))
-worn_found None f a e = absurd cc
-worn_found (Some z) f a e = (z, refl, cc)
-
 count_in : (first bytes granule : ℕ) (h : List Entry) (z : Size) → generation_in z (counts_around first bytes granule h) ≡ count_of first bytes z (region_of bytes z granule) h
 count_in first bytes granule h size.Two = refl
 count_in first bytes granule h size.ThirtyTwo = refl
@@ -89,8 +73,8 @@ worn_of_counts : (g : GeometryData) (c k : ℕ) (t : Task) (found : Gpi) (a : An
     → IsCounted g c k t a (h ++ entry.Refused c k (granule_of_task g t) found ∷ [])
 worn_of_counts g c k t found a h worn =
     let counts : Generations = counts_around g.setup.first (granule_bytes g.setup) (granule_of_task g t) h in
-    let parts = worn_found (find (λ z. is_worn (generation_in z counts)) (size.Two ∷ size.ThirtyTwo ∷ size.FiveTwelve ∷ [])) (λ z. generation_in z counts) a worn in
-    subst (λ (b : Answer). IsCounted g c k t b (h ++ entry.Refused c k (granule_of_task g t) found ∷ [])) (sym parts.2)
+    let parts = some_mapped (λ (z : Size). answer.Worn z (generation_in z counts)) _ a worn in
+    subst (λ (b : Answer). IsCounted g c k t b (h ++ entry.Refused c k (granule_of_task g t) found ∷ [])) parts.2
     (record {
       before = h;
       after = [];

@@ -1,42 +1,28 @@
 -- The entries of a call are allowed by its task and its answer.
 use Rattle.std.proofs.Common.{◌≡◌, ℕ, ◌/◌, ◌<◌, ◌++◌, ◌∷◌, [], List, true, false, eqb, Option, Some, None, length, take, refl, sym, ap, ◌∙◌, subst, arith, inl, inr}
-use Rattle.std.specs.List.{All, find}
-use Rattle.std.specs.Option.{option_map}
+use Rattle.std.specs.List.{All}
 use Rattle.std.proofs.lemmas.Bool.{cases_Bool, eq-eqb}
 use Rattle.std.proofs.lemmas.List.{take_all}
 use Rattle.std.proofs.lemmas.List.Elements.{All-nil, All-cons, All-append, All-take}
-use Rattle.gpi_values.specs.declared.gpi.Gpi.{Gpi}
-use Rattle.gpi_values.specs.declared.gpi.Gpi.TheVariants as gpi
-use Rattle.gpi_values.specs.Values.{own_of, value_of}
-use Rattle.gpt_descriptors.specs.declared.size.Size.{Size}
-use Rattle.gpt_descriptors.specs.declared.size.Size.TheVariants as size
-use Rattle.gpt_descriptors.specs.declared.size.Generations.{Generations}
-use Rattle.gpt_descriptors.specs.Sizes.{granule_bytes, space_granules}
-use Rattle.gpt_descriptors.specs.Places.{GeometryData}
-use Rattle.gpt_descriptors.specs.Entries.{word_gpi}
-use Rattle.history.specs.declared.call.Task.{Task}
-use Rattle.history.specs.declared.call.Task.TheVariants as task
-use Rattle.history.specs.declared.call.Answer.{Answer}
-use Rattle.history.specs.declared.call.Answer.TheVariants as answer
-use Rattle.history.specs.declared.entry.Entry.{Entry}
-use Rattle.history.specs.declared.entry.Entry.TheVariants as entry
-use Rattle.history.specs.Entries.{granule_in, caller_in, call_in}
-use Rattle.history.specs.Counts.{is_worn}
-use Rattle.history.specs.Legality.{granule_of, needed, is_transition, IsChange, CallAllows}
-use Rattle.history.specs.Calls.{call_entries}
-use Rattle.delegate_ops.specs.declared.stage.Change.{Change}
+use Rattle.core_machine.proofs.Names.{Gpi, value_of, Size, Generations, granule_bytes, space_granules, GeometryData, word_gpi, Task, Answer, Entry, granule_in, caller_in, call_in, granule_of, needed, CallAllows, call_entries, Change, Stage, address_of, idle_answer, granule_place, generation_in, worn_answer, IsStage, CallEvent, entries_at, IsPrefix}
+use Rattle.core_machine.proofs.Names.gpi
+use Rattle.core_machine.proofs.Names.size
+use Rattle.core_machine.proofs.Names.task
+use Rattle.core_machine.proofs.Names.answer
+use Rattle.core_machine.proofs.Names.entry
+use Rattle.core_machine.proofs.Names.stage
+use Rattle.gpi_values.specs.Values.{own_of}
+use Rattle.history.specs.Legality.{is_transition, IsChange}
 use Rattle.delegate_ops.specs.declared.stage.Change.TheVariants as change
-use Rattle.delegate_ops.specs.declared.stage.Stage.{Stage}
-use Rattle.delegate_ops.specs.declared.stage.Stage.TheVariants as stage
-use Rattle.delegate_ops.specs.Deciding.{address_of, idle_answer, granule_place, is_needed, refusal_of, generation_in}
-use Rattle.delegate_ops.specs.InnerAgents.{IsChangeOf, IsStage}
-use Rattle.delegate_ops.specs.Script.{CallEvent, Decides, IsCall, change_entry}
+use Rattle.delegate_ops.specs.Deciding.{is_needed, refusal_of}
+use Rattle.delegate_ops.specs.InnerAgents.{IsChangeOf}
+use Rattle.delegate_ops.specs.Script.{Decides, IsCall, change_entry}
 use Rattle.delegate_ops.proofs.DecidingLemmas.{acts_inside}
+use Rattle.delegate_ops.proofs.ScriptLemmas.{some_mapped}
 use Rattle.core_machine.proofs.ListLemmas.{all_one}
-use Rattle.core_machine.proofs.TableLemmas.{granule_within}
 use Rattle.core_machine.proofs.ToldLemmas.{idle_quiet}
-use Rattle.delegate_ops.specs.InnerEntries.{entries_at, entries_before}
-use Rattle.delegate_ops.specs.InnerScript.{IsPrefix}
+use Rattle.delegate_ops.specs.InnerEntries.{entries_before}
+use Rattle.core_machine.proofs.AddressLemmas.{granule_within}
 
 -- ---- granules inside the space
 
@@ -102,24 +88,27 @@ fitting_allowed g c k t a acts fits = All-nil (IsOwnEntry g c k t a)
 
 -- ---- what a transition is answered
 
-refused_fits : (t : Task) (o : Option Gpi) (a : Answer) → refusal_of t o ≡ Some a → FitsAnswer t a
-refused_fits t None a refused = absurd cc
-refused_fits t (Some found) a refused =
+-- a refusal is by a GPI that isn't the needed one
+pub refused_is : (t : Task) (o : Option Gpi) (a : Answer) → refusal_of t o ≡ Some a → (found : Gpi) × (o ≡ Some found) × (is_needed (needed t) found ≡ false) × (a ≡ answer.Perm found)
+refused_is t None a refused = absurd cc
+refused_is t (Some found) a refused =
     elim (cases_Bool (is_needed (needed t) found)) [
       | inl same ↦ absurd (let both = rw same at refused in cc)
-      | inr other ↦ subst (FitsAnswer t) (let both = rw other at refused in let is : answer.Perm found ≡ a = cc in is) other
+      | inr other ↦ (found, refl, other, let both = rw other at refused in cc)
     ]
 
-worn_fits : (t : Task) (o : Option Size) (f : Size → ℕ) (a : Answer) → option_map (λ z. answer.Worn z (f z)) o ≡ Some a → FitsAnswer t a
-worn_fits t None f a worn = absurd cc
-worn_fits t (Some z) f a worn = subst (FitsAnswer t) (let is : answer.Worn z (f z) ≡ a = cc in is) tt
+refused_fits : (t : Task) (o : Option Gpi) (a : Answer) → refusal_of t o ≡ Some a → FitsAnswer t a
+refused_fits t o a refused = let by = refused_is t o a refused in subst (FitsAnswer t) (sym by.3) by.2
+
+worn_fits : (t : Task) (k : Generations) (a : Answer) → worn_answer k ≡ Some a → FitsAnswer t a
+worn_fits t k a worn = let by = some_mapped (λ (z : Size). answer.Worn z (generation_in z k)) _ a worn in subst (FitsAnswer t) by.2 tt
 
 pub decided_fits : (g : GeometryData) (c k : ℕ) (t : Task) (given : Answer) (events : List CallEvent) → Decides g c k t given events → FitsAnswer t given
 decided_fits g c k t given events decided =
     elim decided [
       | inl refused ↦ refused_fits t (word_gpi refused.word (granule_place g (address_of t))) given refused.refused
       | inr later ↦ elim later [
-        | inl worn ↦ worn_fits t (find (λ z. is_worn (generation_in z worn.generations)) (size.Two ∷ size.ThirtyTwo ∷ size.FiveTwelve ∷ [])) (λ z. generation_in z worn.generations) given worn.worn
+        | inl worn ↦ worn_fits t worn.generations given worn.worn
         | inr done ↦ subst (FitsAnswer t) (sym done.is) tt
       ]
     ]
@@ -137,47 +126,49 @@ call_allowed g c k t a own call = call_allowed_by g c k t a own (idle_answer g t
 
 -- ---- the call under way
 
--- what it has made are the first entries of an answer that it can have
-abbrev pub IsPrefixFit : GeometryData → ℕ → ℕ → Option Task → List Entry → Type 0
-IsPrefixFit g c k None made = made ≡ []
-IsPrefixFit g c k (Some t) made = (a : Answer) × (n : ℕ) × (made ≡ take n (call_entries (granule_bytes g.setup) c k t a)) × FitsAnswer t a
+-- what it has made are the first entries of an answer that it can have; where that is a worn generation, it is to be
+-- answered so
+abbrev pub IsPrefixFit : GeometryData → ℕ → ℕ → Stage → Option Task → List Entry → Type 0
+IsPrefixFit g c k s None made = made ≡ []
+IsPrefixFit g c k s (Some t) made =
+    (a : Answer) × (n : ℕ) × (made ≡ take n (call_entries (granule_bytes g.setup) c k t a)) × FitsAnswer t a × ((z : Size) (v : ℕ) → a ≡ answer.Worn z v → s ≡ stage.Releasing a)
 
 no_generations : Generations
 no_generations = record { two = 0; thirty_two = 0; five_twelve = 0 }
 
-changing_fits : (g : GeometryData) (c k : ℕ) (t : Task) (ch : Change) → IsPrefixFit g c k (Some t) (entries_before g c k t ch)
-changing_fits g c k (task.Undelegate pa source) change.Last = (answer.Done no_generations, 2, refl, tt)
-changing_fits g c k t ch = (answer.Inval, 0, refl, tt)
+changing_fits : (g : GeometryData) (c k : ℕ) (s : Stage) (t : Task) (ch : Change) → IsPrefixFit g c k s (Some t) (entries_before g c k t ch)
+changing_fits g c k s (task.Undelegate pa source) change.Last = (answer.Done no_generations, 2, refl, tt, λ z v is. absurd cc)
+changing_fits g c k s t ch = (answer.Inval, 0, refl, tt, λ z v is. absurd cc)
 
-raising_fits : (g : GeometryData) (c k : ℕ) (t : Task) (ch : Change) → IsChangeOf t ch → IsPrefixFit g c k (Some t) (entries_before g c k t ch ++ change_entry g c k t ch ∷ [])
-raising_fits g c k (task.Delegate pa source) change.First changes = absurd changes
-raising_fits g c k (task.Delegate pa source) change.Last changes = (answer.Done no_generations, 1, refl, tt)
-raising_fits g c k (task.Undelegate pa source) change.First changes = (answer.Done no_generations, 1, refl, tt)
-raising_fits g c k (task.Undelegate pa source) change.Last changes = (answer.Done no_generations, 3, refl, tt)
-raising_fits g c k task.Unknown ch changes = absurd changes
-raising_fits g c k (task.Look pa space) ch changes = absurd changes
+raising_fits : (g : GeometryData) (c k : ℕ) (s : Stage) (t : Task) (ch : Change) → IsChangeOf t ch → IsPrefixFit g c k s (Some t) (entries_before g c k t ch ++ change_entry g c k t ch ∷ [])
+raising_fits g c k s (task.Delegate pa source) change.First changes = absurd changes
+raising_fits g c k s (task.Delegate pa source) change.Last changes = (answer.Done no_generations, 1, refl, tt, λ z v is. absurd cc)
+raising_fits g c k s (task.Undelegate pa source) change.First changes = (answer.Done no_generations, 1, refl, tt, λ z v is. absurd cc)
+raising_fits g c k s (task.Undelegate pa source) change.Last changes = (answer.Done no_generations, 3, refl, tt, λ z v is. absurd cc)
+raising_fits g c k s task.Unknown ch changes = absurd changes
+raising_fits g c k s (task.Look pa space) ch changes = absurd changes
 
 no_task_prefix : (g : GeometryData) (c k : ℕ) (s : Stage) → entries_at g c k s None ≡ []
 no_task_prefix g c k stage.Locking = refl
 no_task_prefix g c k s = refl
 
-pub prefix_fits : (g : GeometryData) (c k : ℕ) (s : Stage) (o : Option Task) (events : List CallEvent) → IsStage g s o → IsPrefix g c k s o events → IsPrefixFit g c k o (entries_at g c k s o)
-prefix_fits g c k (stage.Changing ch kept) (Some t) events fits front = changing_fits g c k t ch
-prefix_fits g c k (stage.Raising ch size.Two kept) (Some t) events fits front = raising_fits g c k t ch fits.0
-prefix_fits g c k (stage.Raising ch size.ThirtyTwo kept) (Some t) events fits front = raising_fits g c k t ch fits.0
-prefix_fits g c k (stage.Raising ch size.FiveTwelve kept) (Some t) events fits front = raising_fits g c k t ch fits.0
+pub prefix_fits : (g : GeometryData) (c k : ℕ) (s : Stage) (o : Option Task) (events : List CallEvent) → IsStage g s o → IsPrefix g c k s o events → IsPrefixFit g c k s o (entries_at g c k s o)
+prefix_fits g c k (stage.Changing ch kept) (Some t) events fits front = changing_fits g c k (stage.Changing ch kept) t ch
+prefix_fits g c k (stage.Raising ch size.Two kept) (Some t) events fits front = raising_fits g c k (stage.Raising ch size.Two kept) t ch fits.0
+prefix_fits g c k (stage.Raising ch size.ThirtyTwo kept) (Some t) events fits front = raising_fits g c k (stage.Raising ch size.ThirtyTwo kept) t ch fits.0
+prefix_fits g c k (stage.Raising ch size.FiveTwelve kept) (Some t) events fits front = raising_fits g c k (stage.Raising ch size.FiveTwelve kept) t ch fits.0
 prefix_fits g c k (stage.Merging f kept) (Some t) events fits front =
     let es : List Entry = call_entries (granule_bytes g.setup) c k t (answer.Done kept) in
-    (answer.Done kept, length es, sym (take_all (length es) es (omega arith)), tt)
+    (answer.Done kept, length es, sym (take_all (length es) es (omega arith)), tt, λ z v is. absurd cc)
 prefix_fits g c k (stage.Releasing given) (Some t) events fits front =
     let es : List Entry = call_entries (granule_bytes g.setup) c k t given in
-    (given, length es, sym (take_all (length es) es (omega arith)), decided_fits g c k t given events front)
-prefix_fits g c k s (Some t) events fits front = (answer.Inval, 0, refl, tt)
+    (given, length es, sym (take_all (length es) es (omega arith)), decided_fits g c k t given events front, λ z v is. refl)
+prefix_fits g c k s (Some t) events fits front = (answer.Inval, 0, refl, tt, λ z v is. absurd cc)
 prefix_fits g c k s None events fits front = no_task_prefix g c k s
 
 -- the entries of a prefix are allowed by an answer
-pub prefix_allowed : (g : GeometryData) (c k : ℕ) (t : Task) (made : List Entry) → idle_answer g t ≡ None → IsPrefixFit g c k (Some t) made
-    → (a : Answer) × All (IsOwnEntry g c k t a) made
-prefix_allowed g c k t made acts fits =
+pub prefix_allowed : (g : GeometryData) (c k : ℕ) (s : Stage) (t : Task) (made : List Entry) → idle_answer g t ≡ None → IsPrefixFit g c k s (Some t) made
+    → (a : Answer) × All (IsOwnEntry g c k t a) made × ((z : Size) (v : ℕ) → a ≡ answer.Worn z v → s ≡ stage.Releasing a)
+prefix_allowed g c k s t made acts fits =
     let es : List Entry = call_entries (granule_bytes g.setup) c k t fits.0 in
-    (fits.0, subst (All (IsOwnEntry g c k t fits.0)) (sym fits.2) (All-take (IsOwnEntry g c k t fits.0) fits.1 es (fitting_allowed g c k t fits.0 acts fits.3)))
+    (fits.0, subst (All (IsOwnEntry g c k t fits.0)) (sym fits.2) (All-take (IsOwnEntry g c k t fits.0) fits.1 es (fitting_allowed g c k t fits.0 acts fits.3)), fits.4)

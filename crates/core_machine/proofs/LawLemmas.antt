@@ -2,56 +2,38 @@
 use Rattle.std.proofs.Common.{◌≡◌, ℕ, ◌+◌, ◌*◌, ◌%◌, ◌<◌, ◌++◌, ◌∷◌, [], Option, Some, None, length, refl, ap, ◌∙◌, subst, inl, inr, sym, Bool, arith, false, ◌/◌, ◌⊎◌, true}
 use Rattle.std.specs.Prelude.{slice_get, option_and_then}
 use Rattle.std.proofs.lemmas.Bool.{cases_Bool, ltb-true}
-use Rattle.gpt_descriptors.specs.Places.{GeometryData, l0_words, l1_words, l1_place_of, Level1, WordName, Generation, IsGeometry, Lock, word_count, gen_place_of, IsWordName, place_of}
-use Rattle.shared_words.specs.declared.act.Act.{Act}
-use Rattle.shared_words.specs.declared.act.Act.TheVariants as act
-use Rattle.shared_words.specs.Acts.{place_in, answer_of}
-use Rattle.bit_locks.specs.Locks.{take_act, release_act, lock_number}
+use Rattle.core_machine.proofs.Names.{GeometryData, l0_words, l1_words, l1_place_of, Level1, WordName, Generation, IsGeometry, Lock, word_count, gen_place_of, IsWordName, place_of, Act, place_in, answer_of, take_act, release_act, lock_number, Task, Stage, address_of, generation_in, idle_answer, AgentData, IsStage, HasActs, task_of, next_of, took_at, Caller, caller_next, IsMade, HoldsIn, Scene, lock_bit_of, granule_of_task, made_at, Gpi, Generations, l1_index, size_bytes, words_of, Fusing, Testing, Storing, Ended, Size, Answer}
+use Rattle.core_machine.proofs.Names.act
+use Rattle.core_machine.proofs.Names.stage
+use Rattle.core_machine.proofs.Names.caller
+use Rattle.core_machine.proofs.Names.size
+use Rattle.core_machine.proofs.Names.l1
+use Rattle.core_machine.proofs.Names.fuse
 use Rattle.invalidate.specs.Generations.{gen_load_of, gen_raise_of}
-use Rattle.history.specs.declared.call.Task.{Task}
-use Rattle.delegate_ops.specs.declared.stage.Stage.{Stage}
-use Rattle.delegate_ops.specs.declared.stage.Stage.TheVariants as stage
-use Rattle.delegate_ops.specs.Deciding.{address_of, generation_in, idle_answer}
 use Rattle.delegate_ops.specs.Changing.{changed_word}
-use Rattle.delegate_ops.specs.InnerAgents.{AgentData, IsStage, IsSplittingOf, IsMergingOf, HasActs, task_of, act_at, next_of, is_held, took_at, took_under_way, took_of}
+use Rattle.delegate_ops.specs.InnerAgents.{IsSplittingOf, IsMergingOf, act_at, is_held, took_under_way, took_of}
 use Rattle.delegate_ops.proofs.AgentLemmas.{took_is_agent}
 use Rattle.delegate_ops.proofs.ScriptLemmas.{some_mapped, step_walks}
-use Rattle.core_machine.specs.declared.caller.Caller.{Caller}
-use Rattle.core_machine.specs.declared.caller.Caller.TheVariants as caller
-use Rattle.core_machine.specs.InnerCallers.{MayTake, caller_next}
-use Rattle.core_machine.specs.InnerInvariant.{IsMade}
-use Rattle.core_machine.specs.InnerScene.{Scene, HoldsIn}
+use Rattle.core_machine.specs.InnerCallers.{IsCallerOf, MayTake}
 use Rattle.core_machine.specs.InnerLaw.{OneActKeeps, scene_acted}
-use Rattle.core_machine.proofs.OthersLemmas.{made_at_place}
-use Rattle.core_machine.proofs.ActLemmas.{Acting, lock_low}
+use Rattle.core_machine.specs.InnerCallerLaws.{ActsHavePlaces}
+use Rattle.core_machine.proofs.ActLemmas.{Acting}
 use Rattle.core_machine.proofs.LockActs.{ActKeeps, take_keeps, release_keeps}
 use Rattle.core_machine.proofs.LoadActs.{look_keeps, read_keeps}
 use Rattle.core_machine.proofs.ChangeActs.{change_keeps}
 use Rattle.core_machine.proofs.RaiseActs.{raise_keeps}
 use Rattle.core_machine.proofs.BlockActs.{split_place, split_keeps, merge_keeps}
-use Rattle.core_machine.proofs.ChangeLemmas.{index_below, word_by_granule}
-use Rattle.delegate_ops.specs.Script.{lock_bit_of, granule_of_task}
-use Rattle.delegate_ops.specs.InnerEntries.{made_at}
-use Rattle.core_machine.proofs.WordLemmas.{index_at, is_lock}
+use Rattle.core_machine.proofs.WordLemmas.{is_lock}
 use Rattle.gpt_descriptors.proofs.PlaceLemmas.{generation_named, index_within, place_below}
 use Rattle.delegate_ops.proofs.DecidingLemmas.{acts_inside}
-use Rattle.gpi_values.specs.declared.gpi.Gpi.{Gpi}
 use Rattle.gpt_descriptors.specs.declared.size.MaxBlock.{MaxBlock}
-use Rattle.gpt_descriptors.specs.declared.size.Size.TheVariants as size
-use Rattle.gpt_descriptors.specs.declared.size.Generations.{Generations}
-use Rattle.gpt_descriptors.specs.declared.entry.L1Entry.TheVariants as l1
 use Rattle.gpt_descriptors.specs.Entries.{l1_word}
-use Rattle.gpt_descriptors.specs.Level0.{l1_index}
-use Rattle.gpt_descriptors.specs.Sizes.{size_bytes, words_of}
-use Rattle.table_meaning.specs.declared.fusing.Fusing.{Fusing}
-use Rattle.table_meaning.specs.declared.fusing.Fusing.TheVariants.{Testing, Storing, Ended}
 use Rattle.table_meaning.specs.Fusing.{block_words, loads_of, load_at, store_at}
 use Rattle.table_meaning.proofs.PlaceLemmas.{block_index, load_index, store_index}
 use Rattle.table_meaning.proofs.FusingLemmas.{block_words_is}
 use Rattle.shatter.specs.Splitting.{store_of}
-use Rattle.fuse.specs.Merging as fuse
-use Rattle.gpt_descriptors.specs.declared.size.Size.{Size}
-use Rattle.history.specs.declared.call.Answer.{Answer}
+use Rattle.core_machine.proofs.CallerLemmas.{made_at_place}
+use Rattle.core_machine.proofs.AddressLemmas.{lock_low, index_below, word_by_granule, index_at}
 
 -- ---- an agent after an act was made as before
 
@@ -152,77 +134,72 @@ act_word g t (stage.Splitting z d k) next geometry acts fits e =
     on_index g t (stage.Splitting z d k) (at.0 / n * n + d.made) next (index_below g _ _ geometry (block_index g.setup (l0_words g) z w at.0 d.made own low)) (ap place_in (sym store) ∙ place) (ap is_plain (sym store))
 act_word g t (stage.Merging f k) next geometry acts fits e = merging_word g t f.first f.own f.two f.max f.gpi f.step k next geometry fits e
 
-pub act_low : (g : GeometryData) (t : Task) (st : Stage) (next : Act) → IsGeometry g → idle_answer g t ≡ None → IsStage g st (Some t) → act_at g st t ≡ Some next → place_in next < word_count g
-act_low g t st next geometry acts fits e = let on = act_word g t st next geometry acts fits e in subst (λ (p : ℕ). p < word_count g) (sym on.place) (place_below g on.name on.named)
-
 -- ---- any act of an agent
+
+by_act : {s : Scene} {c : ℕ} {a : AgentData} {t : Task} {st : Stage} {is next : Act} → Acting s c a t st → ActKeeps s c a t st is → Some is ≡ Some next → ActKeeps s c a t st next
+by_act {s = s} {c = c} {a = a} {t = t} {st = st} {is = is} {next = next} acting keeps e = subst (ActKeeps s c a t st) (let same : is ≡ next = cc in same) keeps
 
 -- by its stage: for each kind of act one row
 agent_keeps : {s : Scene} {c : ℕ} {a : AgentData} {t : Task} (st : Stage) (next : Act) → Acting s c a t st → act_at a.geometry st t ≡ Some next → ActKeeps s c a t st next
-agent_keeps {s = s} {c = c} {a = a} {t = t} stage.Locking next acting e =
-    subst (ActKeeps s c a t stage.Locking) (let same : take_act (lock_bit_of a.geometry t) ≡ next = cc in same) (take_keeps acting)
+agent_keeps stage.Locking next acting e = by_act acting (take_keeps acting) e
 agent_keeps {s = s} {c = c} {a = a} {t = t} stage.Looking next acting e =
     let load = some_mapped act.Load (l1_place_of a.geometry (address_of t)) next e in
     subst (ActKeeps s c a t stage.Looking) load.2 (look_keeps acting load.0 load.1)
-agent_keeps {s = s} {c = c} {a = a} {t = t} (stage.Reading z k) next acting e =
-    subst (ActKeeps s c a t (stage.Reading z k)) (let same : gen_load_of a.geometry z (address_of t) ≡ next = cc in same) (read_keeps z k acting)
+agent_keeps (stage.Reading z k) next acting e = by_act acting (read_keeps z k acting) e
 agent_keeps {s = s} {c = c} {a = a} {t = t} (stage.Changing ch k) next acting e =
     let store = some_mapped (λ place. act.Store place (changed_word a.geometry t ch k.word)) (l1_place_of a.geometry (address_of t)) next e in
     subst (ActKeeps s c a t (stage.Changing ch k)) store.2 (change_keeps ch k store.0 acting store.1)
-agent_keeps {s = s} {c = c} {a = a} {t = t} (stage.Raising ch z k) next acting e =
-    subst (ActKeeps s c a t (stage.Raising ch z k)) (let same : gen_raise_of a.geometry z (address_of t) (generation_in z k.generations) ≡ next = cc in same) (raise_keeps ch z k acting)
-agent_keeps {s = s} {c = c} {a = a} {t = t} (stage.Releasing o) next acting e =
-    subst (ActKeeps s c a t (stage.Releasing o)) (let same : release_act (lock_bit_of a.geometry t) ≡ next = cc in same) (release_keeps o acting)
+agent_keeps (stage.Raising ch z k) next acting e = by_act acting (raise_keeps ch z k acting) e
+agent_keeps (stage.Releasing given) next acting e = by_act acting (release_keeps given acting) e
 agent_keeps (stage.Splitting z d k) next acting e = split_keeps z d k next acting e
 agent_keeps (stage.Merging f k) next acting e = merge_keeps f k next acting e
 
--- ---- a caller with a next act
+then_some : {X Y : Type 0} (f : X → Option Y) (o : Option X) (y : Y) → option_and_then f o ≡ Some y → (x : X) × (o ≡ Some x) × (f x ≡ Some y)
+then_some f None y e = absurd cc
+then_some f (Some x) y e = (x, refl, e)
 
--- it is an agent at a stage of a task, which has this act next
-pub record Actor (g : GeometryData) (s : Scene) (c : ℕ) (x : Caller) (next : Act) : Type 0 where
-  pub agent : AgentData
-  pub task : Task
-  pub is : x ≡ caller.Agent agent
-  pub geometry : agent.geometry ≡ g
-  pub acting : Acting s c agent task agent.stage
-  pub act : act_at agent.geometry agent.stage task ≡ Some next
+-- an agent with a next act is at a stage of a task, which has it
+pub agent_acting : (g : GeometryData) (s : Scene) (c : ℕ) (a : AgentData) (next : Act) → HoldsIn g s → slice_get s.callers c ≡ Some (caller.Agent a) → next_of a ≡ Some next
+    → (a.geometry ≡ g) × (t : Task) × Acting s c a t a.stage × (act_at a.geometry a.stage t ≡ Some next)
+agent_acting g s c a next stands at e =
+    let made = made_at_place g s c (caller.Agent a) stands at in
+    let way = then_some (act_at a.geometry a.stage) (task_of a) next e in
+    let acting : Acting s c a way.0 a.stage = record {
+      stands = subst (λ (k : GeometryData). HoldsIn k s) (sym made.0) stands;
+      at = at;
+      is = made.1;
+      under_way = way.1;
+      acts = subst (HasActs a.geometry) way.1 made.1.acts;
+      made = λ old. subst (λ (o : Option Task). IsMade a.geometry (caller.Agent (took_under_way a o old))) way.1 (took_made a.geometry a next old (refl, made.1, made.2, made.3, made.4) e);
+    } in
+    (made.0, way.0, acting, way.2)
 
-acting_of : (s : Scene) (c : ℕ) (a : AgentData) (next : Act) (o : Option Task) → HoldsIn a.geometry s → slice_get s.callers c ≡ Some (caller.Agent a) → IsMade a.geometry (caller.Agent a) → task_of a ≡ o
-    → option_and_then (act_at a.geometry a.stage) o ≡ Some next → Actor a.geometry s c (caller.Agent a) next
-acting_of s c a next None stands at made under_way e = absurd cc
-acting_of s c a next (Some t) stands at made under_way e = record {
-  agent = a;
-  task = t;
-  is = refl;
-  geometry = refl;
-  acting = record {
-    stands = stands;
-    at = at;
-    is = made.1;
-    under_way = under_way;
-    acts = subst (HasActs a.geometry) under_way made.1.acts;
-    made = λ old. subst (λ (o : Option Task). IsMade a.geometry (caller.Agent (took_under_way a o old))) under_way
-        (took_made a.geometry a next old made (ap (λ (o : Option Task). option_and_then (act_at a.geometry a.stage) o) under_way ∙ e));
-  };
-  act = e;
-}
+-- ---- any act of a caller
 
-pub actor_of : (g : GeometryData) (s : Scene) (c : ℕ) (x : Caller) (next : Act) → HoldsIn g s → slice_get s.callers c ≡ Some x → caller_next x ≡ Some next → Actor g s c x next
-actor_of g s c (caller.Cpu looks) next stands at e = absurd cc
-actor_of g s c (caller.Agent a) next stands at e =
-    let made = made_at_place g s.first s.words s.callers c (caller.Agent a) stands.shape at in
-    subst (λ (k : GeometryData). HoldsIn k s → IsMade k (caller.Agent a) → Actor k s c (caller.Agent a) next) made.0
-    (λ stands_so made_so. acting_of s c a next (task_of a) stands_so at made_so refl e) stands made
+-- its place is among the words, by how the caller was made alone
+pub acts_have_places : ActsHavePlaces
+acts_have_places g (caller.Agent a) next made e =
+    let way = then_some (act_at a.geometry a.stage) (task_of a) next e in
+    subst (λ (k : GeometryData). place_in next < word_count k) made.0
+    (let on = act_word a.geometry way.0 a.stage next made.1.geometry (subst (HasActs a.geometry) way.1 made.1.acts) (subst (IsStage a.geometry a.stage) way.1 made.1.stage) way.2 in
+    subst (λ (p : ℕ). p < word_count a.geometry) (sym on.place) (place_below a.geometry on.name on.named))
+acts_have_places g (caller.Cpu looks) next made e = absurd cc
 
--- what one act keeps
+-- what it keeps
 abbrev Keeps : GeometryData → Scene → ℕ → Caller → Act → Type 0
-Keeps g s c x t = (place_in t < length s.words) × MayTake x (answer_of t s.words) × HoldsIn g (scene_acted s c x t)
+Keeps g s c x t = MayTake x (answer_of t s.words) × HoldsIn g (scene_acted s c x t)
+
+caller_keeps : (g : GeometryData) (s : Scene) (c : ℕ) (x : Caller) (t : Act) → HoldsIn g s → slice_get s.callers c ≡ Some x → caller_next x ≡ Some t → Keeps g s c x t
+caller_keeps g s c (caller.Agent a) t stands at next =
+    let way = agent_acting g s c a t stands at next in
+    subst (λ (k : GeometryData). Keeps k s c (caller.Agent a) t) way.0 (rw way.2.under_way (agent_keeps a.stage t way.2 way.3))
+caller_keeps g s c (caller.Cpu looks) t stands at next = absurd cc
+
+made_of : (g : GeometryData) (x : Caller) → IsMade g x → IsCallerOf g x
+made_of g (caller.Agent a) made = (made.0, made.1)
+made_of g (caller.Cpu looks) made = tt
 
 pub one_act : OneActKeeps
 one_act g s c x t stands at next =
-    let actor = actor_of g s c x t stands at next in
-    subst (λ (y : Caller). Keeps g s c y t) (sym actor.is)
-    (subst (λ (k : GeometryData). Keeps k s c (caller.Agent actor.agent) t) actor.geometry
-    (let low = act_low actor.agent.geometry actor.task actor.agent.stage t actor.acting.stands.shape.geometry actor.acting.acts (subst (IsStage actor.agent.geometry actor.agent.stage) actor.acting.under_way actor.acting.is.stage) actor.act in
-    let kept = agent_keeps actor.agent.stage t actor.acting actor.act in
-    rw actor.acting.under_way (subst (λ (n : ℕ). place_in t < n) (sym actor.acting.stands.shape.size) low, kept.0, kept.1)))
+    let kept = caller_keeps g s c x t stands at next in
+    (subst (λ (n : ℕ). place_in t < n) (sym stands.shape.size) (acts_have_places g x t (made_of g x (made_at_place g s c x stands at)) next), kept.0, kept.1)

@@ -1,8 +1,6 @@
 -- The answers of callers, moved one caller after another into the room for them.
 use Rattle.std.proofs.Common.{◌≡◌, ℕ, ◌+◌, ◌≤◌, ◌++◌, ◌∷◌, [], List, map, length, sym, ap, ◌∙◌, arith, append_assoc, length-append}
-use Rattle.history.specs.declared.call.Answer.{Answer}
-use Rattle.core_machine.specs.declared.caller.Caller.{Caller}
-use Rattle.core_machine.specs.InnerCallers.{caller_answers}
+use Rattle.core_machine.proofs.Names.{Answer, Caller, caller_answers}
 
 pub answers_move : (done next all : List (List Answer)) (x : Caller) (left rest : List Caller) (own : List Answer) → done ++ map caller_answers left ≡ all → left ≡ x ∷ rest
     → own ≡ caller_answers x → next ≡ done ++ own ∷ [] → next ++ map caller_answers rest ≡ all

@@ -6,30 +6,17 @@ use Rattle.std.specs.Option.{option_map}
 use Rattle.std.proofs.lemmas.Bool.{cases_Bool, eq-eqb}
 use Rattle.std.proofs.lemmas.Option.{slice_get-map, slice_get_cases, slice_get_past}
 use Rattle.std.proofs.lemmas.List.Elements.{All-nil, All-cons, All-head, All-tail, All-append, All-weaker}
-use Rattle.gpi_values.specs.declared.gpi.Gpi.{Gpi}
-use Rattle.gpt_descriptors.specs.Sizes.{granule_bytes, space_granules}
-use Rattle.gpt_descriptors.specs.Places.{GeometryData}
-use Rattle.history.specs.declared.call.Task.{Task}
-use Rattle.history.specs.declared.call.Answer.{Answer}
-use Rattle.history.specs.declared.call.Answer.TheVariants as answer
-use Rattle.history.specs.declared.entry.Entry.{Entry}
-use Rattle.history.specs.Entries.{granule_in, caller_in, call_in}
-use Rattle.history.specs.States.{State, start, after_entry}
-use Rattle.history.specs.Legality.{granule_of, CallAllows}
+use Rattle.core_machine.proofs.Names.{Gpi, granule_bytes, space_granules, GeometryData, Task, Answer, Entry, granule_in, caller_in, call_in, State, start, after_entry, granule_of, CallAllows, entries_by, call_entries, answered_entries, answer_at, Stage, AgentData, IsAgent, HasActs, IsStage, task_of, CallEvent, Caller, caller_answers, entries_at, IsPrefix, AreAllowed, IsHistoryOf}
+use Rattle.core_machine.proofs.Names.answer
+use Rattle.core_machine.proofs.Names.caller
 use Rattle.history.specs.Calls as calls
-use Rattle.history.specs.Calls.{entries_by, call_entries, answered_entries, IsUnderWay, task_at, answer_at, Fits, IsLegalHistory, HasCalls}
-use Rattle.delegate_ops.specs.declared.stage.Stage.{Stage}
-use Rattle.delegate_ops.specs.InnerAgents.{AgentData, IsAgent, HasActs, IsStage, task_of}
-use Rattle.delegate_ops.specs.Script.{CallEvent, AreCallEvents}
-use Rattle.core_machine.specs.declared.caller.Caller.{Caller}
-use Rattle.core_machine.specs.declared.caller.Caller.TheVariants as caller
-use Rattle.core_machine.specs.InnerCallers.{caller_answers, own_of}
-use Rattle.core_machine.specs.InnerHistory.{AreAllowed, IsHistoryOf}
+use Rattle.history.specs.Calls.{IsUnderWay, task_at, Fits, IsLegalHistory, HasCalls}
+use Rattle.delegate_ops.specs.Script.{AreCallEvents}
+use Rattle.core_machine.specs.InnerCallers.{own_of}
 use Rattle.core_machine.proofs.AloneLemmas.{own_first}
-use Rattle.core_machine.proofs.HolderLemmas.{length_after}
+use Rattle.core_machine.proofs.ActLemmas.{length_after}
 use Rattle.core_machine.proofs.EntryLemmas.{IsOwnEntry, call_allowed, IsPrefixFit, prefix_fits, prefix_allowed}
-use Rattle.delegate_ops.specs.InnerEntries.{entries_at}
-use Rattle.delegate_ops.specs.InnerScript.{HasWalked, IsPrefix}
+use Rattle.delegate_ops.specs.InnerScript.{HasWalked}
 
 -- ---- an entry that its call allows
 
@@ -86,7 +73,7 @@ prefix_known : (g : GeometryData) (tasks : List (List Task)) (answers : List (Li
 prefix_known g tasks answers c k s None events fits acts front asks given =
     subst (All (IsKnown g tasks answers)) (sym (prefix_fits g c k s None events fits front)) (All-nil (IsKnown g tasks answers))
 prefix_known g tasks answers c k s (Some t) events fits acts front asks given =
-    let own = prefix_allowed g c k t (entries_at g c k s (Some t)) acts (prefix_fits g c k s (Some t) events fits front) in
+    let own = prefix_allowed g c k s t (entries_at g c k s (Some t)) acts (prefix_fits g c k s (Some t) events fits front) in
     All-weaker (IsOwnEntry g c k t own.0) (IsKnown g tasks answers)
     (λ e is. known_of g tasks answers c k t own.0 e asks (fits_any (answer_at answers c k) own.0 given) is)
     (entries_at g c k s (Some t)) own.1
@@ -183,9 +170,9 @@ made_legal g first callers h tasks tells have made size =
 
 -- ---- it has each call
 
-under_way_of : (g : GeometryData) (c k : ℕ) (o : Option Task) (made : List Entry) → IsPrefixFit g c k o made → IsUnderWay (granule_bytes g.setup) c k o made
-under_way_of g c k None made fits = fits
-under_way_of g c k (Some t) made fits = (fits.0, fits.1, fits.2)
+under_way_of : (g : GeometryData) (c k : ℕ) (s : Stage) (o : Option Task) (made : List Entry) → IsPrefixFit g c k s o made → IsUnderWay (granule_bytes g.setup) c k o made
+under_way_of g c k s None made fits = fits
+under_way_of g c k s (Some t) made fits = (fits.0, fits.1, fits.2)
 
 none_under_way : (bytes c k : ℕ) (o : Option Task) → IsUnderWay bytes c k o []
 none_under_way bytes c k None = refl
@@ -196,7 +183,7 @@ agent_calls : (c : ℕ) (a : AgentData) (h : List Entry) (events : List CallEven
 agent_calls c a h events agent stands own = record {
   under_way = entries_at a.geometry c (length a.answers) a.stage (task_of a);
   in_order = own;
-  beginning = under_way_of a.geometry c (length a.answers) (task_of a) (entries_at a.geometry c (length a.answers) a.stage (task_of a))
+  beginning = under_way_of a.geometry c (length a.answers) a.stage (task_of a) (entries_at a.geometry c (length a.answers) a.stage (task_of a))
       (prefix_fits a.geometry c (length a.answers) a.stage (task_of a) stands.last agent.stage stands.under_way);
 }
 

@@ -1,10 +1,12 @@
 -- Lists: one item is set, two stand in a row, one stands alone.
-use Rattle.std.proofs.Common.{◌≡◌, ◌≢◌, ℕ, zero, suc, ◌+◌, ◌<◌, ◌++◌, ◌∷◌, [], ◌⊎◌, length, List, Bool, cond, Some, get_or, set, refl, sym, ap, ◌∙◌, subst, arith, inl, inr}
+use Rattle.std.proofs.Common.{◌≡◌, ◌≢◌, ℕ, zero, suc, ◌+◌, ◌<◌, ◌≤◌, ◌++◌, ◌∷◌, [], ◌⊎◌, length, List, Bool, true, false, cond, Some, get_or, set, refl, sym, ap, ◌∙◌, subst, arith, inl, inr}
 use Rattle.std.specs.Prelude.{slice_get}
 use Rattle.std.specs.List.{All, count_by}
 use Rattle.std.proofs.lemmas.List.Elements.{All-nil, All-cons}
-use Rattle.std.proofs.lemmas.List.Sums.{sum_by-set}
+use Rattle.std.proofs.lemmas.Bool.{cases_Bool}
+use Rattle.std.proofs.lemmas.List.Sums.{sum_by-cons, sum_by-set}
 use Rattle.std.proofs.lemmas.Option.{slice_get_within, get_or_from_slice_get}
+pub use Rattle.history.proofs.ListLemmas.{get_set_same, get_set_other, get_append}
 
 -- what stands at d afterwards
 pub get_set : {X : Type 0} (xs : List X) (c d : ℕ) (x y : X) → slice_get (set xs c x) d ≡ Some y → ((d ≡ c) × (x ≡ y)) ⊎ ((d ≢ c) × (slice_get xs d ≡ Some y))
@@ -26,30 +28,8 @@ each_set P xs c x here away d y there =
       | inr other ↦ away d y other.0 other.1
     ]
 
-pub get_set_same : {X : Type 0} (xs : List X) (c : ℕ) (x : X) → c < length xs → slice_get (set xs c x) c ≡ Some x
-get_set_same [] c x within = absurd (omega arith)
-get_set_same (w ∷ xs) zero x within = refl
-get_set_same (w ∷ xs) (suc c) x within = get_set_same xs c x (omega (arith, within))
-
 pub get_set_here : {X : Type 0} (xs : List X) (c : ℕ) (a x : X) → slice_get xs c ≡ Some a → slice_get (set xs c x) c ≡ Some x
 get_set_here xs c a x at = get_set_same xs c x (slice_get_within xs c a at)
-
-pub get_set_other : {X : Type 0} (xs : List X) (c d : ℕ) (x : X) → d ≢ c → slice_get (set xs c x) d ≡ slice_get xs d
-get_set_other [] c d x other = refl
-get_set_other (w ∷ xs) zero zero x other = absurd (other refl)
-get_set_other (w ∷ xs) zero (suc d) x other = refl
-get_set_other (w ∷ xs) (suc c) zero x other = refl
-get_set_other (w ∷ xs) (suc c) (suc d) x other = get_set_other xs c d x (λ same. other (ap suc same))
-
--- what stands in two lists in a row
-pub get_append : {X : Type 0} (xs ys : List X) (k : ℕ) (v : X) → slice_get (xs ++ ys) k ≡ Some v → ((k < length xs) × (slice_get xs k ≡ Some v)) ⊎ ((i : ℕ) × (k ≡ length xs + i) × (slice_get ys i ≡ Some v))
-get_append [] ys k v there = inr (k, omega arith, there)
-get_append (x ∷ xs) ys zero v there = inl (omega arith, there)
-get_append (x ∷ xs) ys (suc k) v there =
-    elim (get_append xs ys k v there) [
-      | inl front ↦ inl (omega (arith, front.0), front.1)
-      | inr back ↦ inr (back.0, omega (arith, back.1), back.2)
-    ]
 
 pub get_front : {X : Type 0} (xs ys : List X) (k : ℕ) (v : X) → slice_get xs k ≡ Some v → slice_get (xs ++ ys) k ≡ Some v
 get_front [] ys k v there = absurd cc
@@ -64,6 +44,50 @@ pub count_set : {X : Type 0} (p : X → Bool) (xs : List X) (c : ℕ) (old new :
 count_set {X = X} p xs c old new at =
     let here : get_or xs c old ≡ old = get_or_from_slice_get xs c old old at in
     ap (λ (x : X). count_by p (set xs c new) + one (p x)) (sym here) ∙ sum_by-set (λ x. one (p x)) xs c new old (slice_get_within xs c old at)
+
+pub count_cons : {X : Type 0} (p : X → Bool) (xs : List X) (x : X) → count_by p (x ∷ xs) ≡ one (p x) + count_by p xs
+count_cons p xs x = sum_by-cons (λ y. one (p y)) x xs
+
+pub some_pass : {X : Type 0} (p : X → Bool) (xs : List X) (c : ℕ) (a : X) → slice_get xs c ≡ Some a → p a ≡ true → 1 ≤ count_by p xs
+some_pass p [] c a at passes = absurd cc
+some_pass p (x ∷ xs) zero a at passes = let first : one (p x) ≡ 1 = (let same : x ≡ a = cc in rw (same, passes) refl) in omega (arith, first, count_cons p xs x)
+some_pass p (x ∷ xs) (suc c) a at passes = omega (arith, some_pass p xs c a at passes, count_cons p xs x)
+
+-- where fewer than two pass, they are one
+pub pass_once : {X : Type 0} (p : X → Bool) (xs : List X) (c d : ℕ) (a y : X) → count_by p xs < 2 → slice_get xs c ≡ Some a → slice_get xs d ≡ Some y → p a ≡ true → p y ≡ true → d ≡ c
+pass_once p [] c d a y few at there first second = absurd cc
+pass_once p (x ∷ xs) zero zero a y few at there first second = refl
+pass_once p (x ∷ xs) zero (suc d) a y few at there first second =
+    let here : one (p x) ≡ 1 = (let same : x ≡ a = cc in rw (same, first) refl) in absurd (omega (arith, few, here, count_cons p xs x, some_pass p xs d y there second))
+pass_once p (x ∷ xs) (suc c) zero a y few at there first second =
+    let here : one (p x) ≡ 1 = (let same : x ≡ y = cc in rw (same, second) refl) in absurd (omega (arith, few, here, count_cons p xs x, some_pass p xs c a at first))
+pass_once p (x ∷ xs) (suc c) (suc d) a y few at there first second = ap suc (pass_once p xs c d a y (omega (arith, few, count_cons p xs x)) at there first second)
+
+pub count_none : {X : Type 0} (p : X → Bool) (xs : List X) → ((d : ℕ) (y : X) → slice_get xs d ≡ Some y → p y ≡ false) → count_by p xs ≡ 0
+count_none p [] none = refl
+count_none p (x ∷ xs) none =
+    let here : one (p x) ≡ 0 = ap one (none 0 x refl) in omega (arith, here, count_cons p xs x, count_none p xs (λ d y there. none (suc d) y there))
+
+-- at most one passes: how many do
+pub count_alone : {X : Type 0} (p : X → Bool) (xs : List X) (c : ℕ) (a : X) → slice_get xs c ≡ Some a → ((d : ℕ) (y : X) → d ≢ c → slice_get xs d ≡ Some y → p y ≡ false) → count_by p xs ≡ one (p a)
+count_alone p [] c a at others = absurd cc
+count_alone p (x ∷ xs) zero a at others =
+    let here : one (p x) ≡ one (p a) = (let same : x ≡ a = cc in ap (λ z. one (p z)) same) in
+    omega (arith, here, count_cons p xs x, count_none p xs (λ d y there. others (suc d) y (λ e. omega (arith, e)) there))
+count_alone p (x ∷ xs) (suc c) a at others =
+    let here : one (p x) ≡ 0 = ap one (others 0 x (λ e. omega (arith, e)) refl) in
+    omega (arith, here, count_cons p xs x, count_alone p xs c a at (λ d y apart there. others (suc d) y (λ e. apart (omega (arith, e))) there))
+
+pub some_or_none : {X : Type 0} (p : X → Bool) (xs : List X) → (count_by p xs ≡ 0) ⊎ ((c : ℕ) × (x : X) × (slice_get xs c ≡ Some x) × (p x ≡ true))
+some_or_none p [] = inl refl
+some_or_none p (x ∷ xs) =
+    elim (cases_Bool (p x)) [
+      | inl passes ↦ inr (0, x, refl, passes)
+      | inr fails ↦ elim (some_or_none p xs) [
+        | inl none ↦ inl (let here : one (p x) ≡ 0 = ap one fails in omega (arith, here, none, count_cons p xs x))
+        | inr some ↦ inr (suc some.0, some.1, some.2, some.3)
+      ]
+    ]
 
 pub all_one : {X : Type 0} (P : X → Type 0) (x : X) → P x → All P (x ∷ [])
 all_one P x here = All-cons P x [] here (All-nil P)

@@ -1,64 +1,39 @@
 -- The loads under a lock: of the L1 word, and of the generations.
-use Rattle.std.proofs.Common.{◌≡◌, ℕ, ◌+◌, ◌*◌, ◌/◌, ◌%◌, ◌++◌, ◌∷◌, [], List, map, true, false, not, ◌||◌, eqb, ltb, Option, Some, None, length, take, refl, sym, ap, ◌∙◌, subst, arith, inl, inr}
-use Rattle.std.specs.Prelude.{slice_get, slice_index}
-use Rattle.std.specs.Option.{option_map}
-use Rattle.std.proofs.lemmas.Bool.{cases_Bool, eqb-true, or_parts}
+use Rattle.std.proofs.Common.{◌≡◌, ℕ, ◌/◌, ◌++◌, ◌∷◌, [], List, true, false, Option, Some, None, length, refl, sym, ap, ◌∙◌, subst, arith, inl, inr}
+use Rattle.std.specs.Prelude.{slice_index}
+use Rattle.std.proofs.lemmas.Bool.{cases_Bool, eqb-true}
 use Rattle.std.proofs.lemmas.List.{set-get_or}
-use Rattle.gpi_values.specs.declared.gpi.Gpi.{Gpi}
-use Rattle.gpi_values.specs.declared.gpi.Gpi.TheVariants as gpi
+use Rattle.core_machine.proofs.Names.{Gpi, Size, Generations, granule_bytes, canonical_word, GeometryData, gen_place_of, l1_place_of, Whole, step_of, Task, Answer, Entry, needed, count_of, region_of, Kept, Stage, address_of, idle_answer, granule_place, generation_in, worn_answer, AgentData, is_look, goes_to, took_at, fresh, HoldsIn, Scene, scene_after, map_in, IsCounted, entries_at, made_at, granule_of_task, is_inside, known_at, comes_before, SeesGeneration, open_at, is_due_at, IsMade}
+use Rattle.core_machine.proofs.Names.gpi
+use Rattle.core_machine.proofs.Names.size
+use Rattle.core_machine.proofs.Names.l1
+use Rattle.core_machine.proofs.Names.act
+use Rattle.core_machine.proofs.Names.task
+use Rattle.core_machine.proofs.Names.answer
+use Rattle.core_machine.proofs.Names.entry
+use Rattle.core_machine.proofs.Names.stage
+use Rattle.core_machine.proofs.Names.caller
 use Rattle.gpi_values.specs.Values.{own_of}
 use Rattle.gpi_values.proofs.ValueLemmas.{value_one}
-use Rattle.gpt_descriptors.specs.declared.size.Size.{Size}
-use Rattle.gpt_descriptors.specs.declared.size.Size.TheVariants as size
-use Rattle.gpt_descriptors.specs.declared.size.Generations.{Generations}
-use Rattle.gpt_descriptors.specs.Sizes.{granule_bytes, word_bytes, table_words, region_bytes, space_bytes}
 use Rattle.gpt_descriptors.specs.declared.entry.L1Entry.{L1Entry}
-use Rattle.gpt_descriptors.specs.declared.entry.L1Entry.TheVariants as l1
-use Rattle.gpt_descriptors.specs.Entries.{l1_entry, word_gpi}
-use Rattle.gpt_descriptors.specs.Canonical.{canonical_word}
-use Rattle.gpt_descriptors.specs.Level0.{is_table, table_count}
-use Rattle.gpt_descriptors.specs.Places.{GeometryData, Level1, gen_place_of, place_of, l0_words, l0_word_of, l1_index_of, l1_place_of}
-use Rattle.gpt_descriptors.proofs.PlaceLemmas.{l1_index_at}
-use Rattle.shared_words.specs.declared.act.Act.TheVariants as act
+use Rattle.gpt_descriptors.specs.Entries.{l1_entry}
 use Rattle.invalidate.specs.Generations.{gen_load_of}
-use Rattle.table_meaning.specs.Equation.{Whole}
-use Rattle.table_meaning.specs.Facts.{step_of}
 use Rattle.table_meaning.proofs.FactLemmas.{splits, looked_none, keeps}
 use Rattle.table_meaning.proofs.StepLemmas.{split_begin, no_split}
-use Rattle.history.specs.declared.call.Task.{Task}
-use Rattle.history.specs.declared.call.Task.TheVariants as task
-use Rattle.history.specs.declared.call.Answer.{Answer}
-use Rattle.history.specs.declared.call.Answer.TheVariants as answer
-use Rattle.history.specs.declared.entry.Entry.{Entry}
-use Rattle.history.specs.declared.entry.Entry.TheVariants as entry
-use Rattle.history.specs.Legality.{needed}
-use Rattle.history.specs.Counts.{counts_around, count_of, region_of}
-use Rattle.delegate_ops.specs.declared.stage.Kept.{Kept}
-use Rattle.delegate_ops.specs.declared.stage.Stage.{Stage}
-use Rattle.delegate_ops.specs.declared.stage.Stage.TheVariants as stage
-use Rattle.delegate_ops.specs.Deciding.{address_of, idle_answer, is_needed, refusal_of, granule_place, looked_answer, generation_in, worn_answer, is_unusable}
+use Rattle.history.specs.Counts.{counts_around}
+use Rattle.delegate_ops.specs.Deciding.{is_needed, refusal_of, looked_answer}
 use Rattle.delegate_ops.specs.Changing.{first_change, from_of}
-use Rattle.delegate_ops.specs.InnerAgents.{AgentData, IsReadable, is_look, looked_stage, loaded_stage, read_all, read_stage, kept_read, goes_to, took_at, fresh}
-use Rattle.delegate_ops.proofs.DecidingLemmas.{acts_usable}
+use Rattle.delegate_ops.specs.InnerAgents.{IsReadable, looked_stage, loaded_stage, read_all, read_stage, kept_read}
 use Rattle.delegate_ops.proofs.AgentLemmas.{at_stage, no_look_at}
-use Rattle.core_machine.specs.declared.caller.Caller.TheVariants as caller
-use Rattle.core_machine.specs.InnerLocks.{is_inside}
-use Rattle.core_machine.specs.InnerTables.{known_at, holder_by}
-use Rattle.core_machine.specs.InnerSeen.{comes_before, SeesGeneration, SeesSome, KnowsAt}
-use Rattle.core_machine.specs.InnerOpened.{open_at}
-use Rattle.core_machine.specs.InnerRaised.{is_due_at}
-use Rattle.core_machine.specs.InnerInvariant.{IsMade}
-use Rattle.core_machine.specs.InnerScene.{Scene, state_in, HoldsIn, scene_after}
-use Rattle.core_machine.proofs.TableLemmas.{word_readable}
-use Rattle.core_machine.proofs.StepLemmas.{map_in}
-use Rattle.core_machine.proofs.HolderLemmas.{canonical_gives, reads_own, map_has, holder_at, alone_there, tables_after, tables_stay}
+use Rattle.delegate_ops.proofs.ScriptLemmas.{some_mapped}
+use Rattle.core_machine.proofs.EntryLemmas.{refused_is}
+use Rattle.core_machine.proofs.ActLemmas.{canonical_gives, reads_own, map_has, holders_of, holder_at, alone_there, tables_after, tables_stay, Acting, granule_closed, counts_of, seen_of, raised_same, goes_keeps, load_quietly}
 use Rattle.core_machine.proofs.WordLemmas.{writes_none}
 use Rattle.core_machine.proofs.CountedLemmas.{worn_counted}
-use Rattle.core_machine.proofs.ActLemmas.{Acting, lock_of_task, other_lock, others_left, granule_closed, counts_of, seen_of, opened_same, raised_same, goes_keeps, load_quietly}
 use Rattle.core_machine.proofs.LockActs.{ActKeeps}
-use Rattle.core_machine.specs.Facts.{IsCounted}
-use Rattle.delegate_ops.specs.InnerEntries.{entries_at, known_entries, made_at}
-use Rattle.delegate_ops.specs.Script.{granule_of_task}
+use Rattle.delegate_ops.specs.InnerEntries.{known_entries}
+use Rattle.core_machine.specs.InnerAgentCaller.{SeesGenerations}
+use Rattle.core_machine.proofs.AddressLemmas.{word_readable}
 
 -- ---- a load
 
@@ -71,15 +46,14 @@ load_keeps s c a t st place readable holds = (readable, rw (set-get_or s.words p
 -- ---- a refusal
 
 -- a closed granule that the map gives this GPI: the transition is refused with it
-refuse : {s : Scene} {c : ℕ} {a : AgentData} {t : Task} {st : Stage} (acting : Acting s c a t st) (found : Gpi) (given : Answer) → is_inside st ≡ true → step_of (known_at st) ≡ Whole
+refuse : {s : Scene} {c : ℕ} {a : AgentData} {t : Task} {st : Stage} (acting : Acting s c a t st) (given : Answer) → is_inside st ≡ true → step_of (known_at st) ≡ Whole
     → IsMade a.geometry (caller.Agent (goes_to (at_stage a st) (stage.Releasing given))) → open_at a.geometry st (Some t) ≡ [] → ((y : Size) → is_due_at st y ≡ false)
-    → slice_get (state_in s).map (granule_of_task a.geometry t) ≡ Some found
-    → known_entries a.geometry c (length a.answers) t (Some given) ≡ entry.Refused c (length a.answers) (granule_of_task a.geometry t) found ∷ []
+    → known_entries a.geometry c (length a.answers) t (Some given) ≡ entry.Refused c (length a.answers) (granule_of_task a.geometry t) (map_in s (granule_of_task a.geometry t)) ∷ []
     → entries_at a.geometry c (length a.answers) st (Some t) ≡ []
-    → IsCounted a.geometry c (length a.answers) t given (s.history ++ entry.Refused c (length a.answers) (granule_of_task a.geometry t) found ∷ [])
+    → IsCounted a.geometry c (length a.answers) t given (s.history ++ entry.Refused c (length a.answers) (granule_of_task a.geometry t) (map_in s (granule_of_task a.geometry t)) ∷ [])
     → HoldsIn a.geometry (scene_after s c (caller.Agent (goes_to (at_stage a st) (stage.Releasing given))) s.words (known_entries a.geometry c (length a.answers) t (Some given)))
-refuse {s = s} {c = c} {a = a} {t = t} {st = st} acting found given inside whole made open_none due_none gives entries front counted =
-    let e = entry.Refused c (length a.answers) (granule_of_task a.geometry t) found in
+refuse {s = s} {c = c} {a = a} {t = t} {st = st} acting given inside whole made open_none due_none entries front counted =
+    let e = entry.Refused c (length a.answers) (granule_of_task a.geometry t) (map_in s (granule_of_task a.geometry t)) in
     rw entries
     (goes_keeps acting (stage.Releasing given) None s.words (Some e)
     (record {
@@ -87,61 +61,33 @@ refuse {s = s} {c = c} {a = a} {t = t} {st = st} acting found given inside whole
       stays = refl;
       made = made;
       writes = writes_none a.geometry s.words;
+      block = λ m other. tt;
       no_lock = refl;
       idle = refl;
-      entry = record { caller = refl; call = refl; granule = refl; allowed = (gives, granule_closed acting inside open_none) };
-      tables = tables_stay acting inside (stage.Releasing given) (sym whole) (writes_none a.geometry s.words) refl;
-      others = others_left acting (lock_of_task a t) (writes_none a.geometry s.words) tt (other_lock acting inside);
-      opened = opened_same acting (stage.Releasing given) (sym open_none);
-      seen = tt;
+      entry = record { caller = refl; call = refl; granule = refl; allowed = (map_has acting, granule_closed acting inside open_none) };
+      words = tables_stay acting inside (stage.Releasing given) (sym whole) (writes_none a.geometry s.words) refl;
+      opened = sym open_none;
+      seen = record { known = tt; gives = tt; generations = tt };
       raised = raised_same acting (stage.Releasing given) (writes_none a.geometry s.words) refl (λ y. sym (due_none y));
       coming = λ answer is. subst (λ (x : Answer). IsCounted a.geometry c (length a.answers) t x (s.history ++ e ∷ [])) (let same : given ≡ answer = cc in same) counted;
       front = rw front entries;
     }))
 
-table_index : (g : GeometryData) (pa : ℕ) → is_unusable g pa ≡ false → (i : ℕ) × (l1_index_of g pa ≡ Some i)
-table_index g pa usable =
-    elim (cases_Bool (is_table (l0_word_of g pa))) [
-      | inl table ↦ (table_count (take (pa / region_bytes) (l0_words g)) * table_words g.setup + pa / word_bytes g.setup % table_words g.setup, l1_index_at g.setup (l0_words g) pa ∙ rw table refl)
-      | inr block ↦ absurd (let last = (or_parts (not (eqb (pa % granule_bytes g.setup) 0) || not (ltb pa (space_bytes g.setup))) (not (is_table (l0_word_of g pa))) usable).1 in let both : true ≡ false = rw block at last in cc)
-    ]
-
--- a task with acts has an L1 word
-pub word_there : (g : GeometryData) (t : Task) → idle_answer g t ≡ None → (place : ℕ) × (l1_place_of g (address_of t) ≡ Some place)
-word_there g t acts =
-    let index = table_index g (address_of t) (acts_usable g t acts) in
-    (place_of g (Level1 index.0), ap (option_map (λ i. place_of g (Level1 i))) index.1)
-
 -- ---- looking at the L1 word
+
+needed_is : (o : Option Gpi) (found : Gpi) → is_needed o found ≡ true → o ≡ Some found
+needed_is None found same = absurd cc
+needed_is (Some v) found same = ap Some (value_one v found (eqb-true _ _ same))
 
 -- a transition that isn't refused by the GPI that it finds needs it
 not_refused : (t : Task) (found : Gpi) → refusal_of t (Some found) ≡ None → needed t ≡ Some found
-not_refused (task.Delegate pa source) found fine =
-    elim (cases_Bool (is_needed (Some gpi.NonSecure) found)) [
-      | inl same ↦ ap Some (value_one gpi.NonSecure found (eqb-true _ _ same))
-      | inr other ↦ absurd (let both = rw other at fine in cc)
-    ]
-not_refused (task.Undelegate pa source) found fine =
-    elim (cases_Bool (is_needed (Some (own_of source)) found)) [
-      | inl same ↦ ap Some (value_one (own_of source) found (eqb-true _ _ same))
-      | inr other ↦ absurd (let both = rw other at fine in cc)
-    ]
-not_refused t found fine = absurd cc
+not_refused t found fine = needed_is (needed t) found (elim (cases_Bool (is_needed (needed t) found)) [ inl same ↦ same | inr other ↦ absurd (let both = rw other at fine in cc) ])
 
--- a refused one is answered the GPI, with one entry
-refused_with : (g : GeometryData) (c k : ℕ) (t : Task) (found : Gpi) (given : Answer) → idle_answer g t ≡ None → is_look t ≡ false → refusal_of t (Some found) ≡ Some given
-    → (given ≡ answer.Perm found) × (known_entries g c k t (Some given) ≡ entry.Refused c k (granule_of_task g t) found ∷ [])
-refused_with g c k (task.Delegate pa source) found given acts no_look refused =
-    elim (cases_Bool (is_needed (Some gpi.NonSecure) found)) [
-      | inl same ↦ absurd (let both = rw same at refused in cc)
-      | inr other ↦ (let both = rw other at refused in let perm : given ≡ answer.Perm found = cc in (perm, rw perm refl))
-    ]
-refused_with g c k (task.Undelegate pa source) found given acts no_look refused =
-    elim (cases_Bool (is_needed (Some (own_of source)) found)) [
-      | inl same ↦ absurd (let both = rw same at refused in cc)
-      | inr other ↦ (let both = rw other at refused in let perm : given ≡ answer.Perm found = cc in (perm, rw perm refl))
-    ]
-refused_with g c k t found given acts no_look refused = absurd cc
+-- one that is refused by it reports it
+refused_with : (g : GeometryData) (c k : ℕ) (t : Task) (found : Gpi) → idle_answer g t ≡ None → is_look t ≡ false → known_entries g c k t (Some (answer.Perm found)) ≡ entry.Refused c k (granule_of_task g t) found ∷ []
+refused_with g c k (task.Delegate pa source) found acts no_look = refl
+refused_with g c k (task.Undelegate pa source) found acts no_look = refl
+refused_with g c k t found acts no_look = absurd cc
 
 none_before_two : (y : Size) → comes_before y size.Two ≡ false
 none_before_two size.Two = refl
@@ -157,14 +103,16 @@ looked_keeps {s = s} {a = a} {t = t} acting word None is fine made =
     (tables_stay acting refl (looked_stage None word) refl (writes_none a.geometry s.words) refl)
     (record {
       known = is;
-      gives = canonical_gives a.geometry.setup (map_in s) None (granule_of_task a.geometry t) word is ∙ sym (not_refused t (map_in s (granule_of_task a.geometry t)) fine);
+      gives = not_refused t (map_in s (granule_of_task a.geometry t)) fine;
       generations = λ y before. absurd (let both : true ≡ false = sym before ∙ none_before_two y in cc);
     }) refl
 looked_keeps {s = s} {c = c} {a = a} {t = t} acting word (Some given) is refused made =
     let found = map_in s (granule_of_task a.geometry t) in
-    let with = refused_with a.geometry c (length a.answers) t found given acting.acts (no_look_at (at_stage a stage.Looking) t acting.is acting.under_way) refused in
-    refuse acting found given refl refl made refl (λ y. refl) (map_has acting) with.1 refl
-    (subst (λ (x : Answer). IsCounted a.geometry c (length a.answers) t x (s.history ++ entry.Refused c (length a.answers) (granule_of_task a.geometry t) found ∷ [])) (sym with.0) tt)
+    let by = refused_is t (Some found) given refused in
+    let perm : given ≡ answer.Perm found = by.3 ∙ ap answer.Perm (let same : by.0 ≡ found = (let both = by.1 in cc) in same) in
+    refuse acting given refl refl made refl (λ y. refl)
+    (ap (λ (x : Answer). known_entries a.geometry c (length a.answers) t (Some x)) perm ∙ refused_with a.geometry c (length a.answers) t found acting.acts (no_look_at (at_stage a stage.Looking) t acting.is acting.under_way)) refl
+    (subst (λ (x : Answer). IsCounted a.geometry c (length a.answers) t x (s.history ++ entry.Refused c (length a.answers) (granule_of_task a.geometry t) found ∷ [])) (sym perm) tt)
 
 pub look_keeps : {s : Scene} {c : ℕ} {a : AgentData} {t : Task} (acting : Acting s c a t stage.Looking) (place : ℕ) → l1_place_of a.geometry (address_of t) ≡ Some place → ActKeeps s c a t stage.Looking (act.Load place)
 look_keeps {s = s} {c = c} {a = a} {t = t} acting place there =
@@ -185,10 +133,6 @@ worn_with g c k (task.Delegate pa source) found given z value needs is = let sam
 worn_with g c k (task.Undelegate pa source) found given z value needs is = let same : own_of source ≡ found = cc in rw (is, ← same) refl
 worn_with g c k t found given z value needs is = absurd cc
 
-worn_is : (k : Generations) (o : Option Size) (given : Answer) → option_map (λ z. answer.Worn z (generation_in z k)) o ≡ Some given → (z : Size) × (given ≡ answer.Worn z (generation_in z k))
-worn_is k None given e = absurd cc
-worn_is k (Some z) given e = (z, cc)
-
 pub first_from : (t : Task) (found : Gpi) → needed t ≡ Some found → from_of t (first_change t) ≡ found
 first_from (task.Delegate pa source) found needs = cc
 first_from (task.Undelegate pa source) found needs = cc
@@ -203,60 +147,43 @@ first_entries g c k t kept = refl
 pub counts_from : (first bytes granule : ℕ) (h : List Entry) (k : Generations) → ((y : Size) → generation_in y k ≡ count_of first bytes y (region_of bytes y granule) h) → k ≡ counts_around first bytes granule h
 counts_from first bytes granule h k each = let two = each size.Two in let thirty_two = each size.ThirtyTwo in let five_twelve = each size.FiveTwelve in rw (← two, ← thirty_two, ← five_twelve) refl
 
--- the GPI that a contiguous word gives
-contiguous_gives : (word place : ℕ) (z : Size) (v : Gpi) → l1_entry word ≡ Some (l1.Contig z v) → word_gpi word place ≡ Some v
-contiguous_gives word place z v read = rw read refl
-
-no_descriptor : (word place : ℕ) → l1_entry word ≡ None → word_gpi word place ≡ None
-no_descriptor word place none = rw none refl
-
 -- with all generations loaded, and none of them worn
-loaded_keeps : {s : Scene} {c : ℕ} {a : AgentData} {t : Task} {old : Kept} (acting : Acting s c a t (stage.Reading size.FiveTwelve old)) (k : Kept) (found : Gpi) (e : Option L1Entry) → KnowsAt a.geometry (map_in s) t (stage.Reading size.FiveTwelve k)
-    → word_gpi k.word (granule_place a.geometry (address_of t)) ≡ needed t → ((y : Size) → SeesGeneration a.geometry s.words t k.generations y) → needed t ≡ Some found → l1_entry k.word ≡ e
+loaded_keeps : {s : Scene} {c : ℕ} {a : AgentData} {t : Task} {old : Kept} (acting : Acting s c a t (stage.Reading size.FiveTwelve old)) (k : Kept) (e : Option L1Entry) → k.word ≡ canonical_word a.geometry.setup (map_in s) None (granule_of_task a.geometry t / 16)
+    → needed t ≡ Some (map_in s (granule_of_task a.geometry t)) → ((y : Size) → SeesGeneration a.geometry s.words t k.generations y) → l1_entry k.word ≡ e
     → IsMade a.geometry (caller.Agent (goes_to (at_stage a (stage.Reading size.FiveTwelve old)) (loaded_stage a.geometry t e k)))
     → HoldsIn a.geometry (scene_after s c (caller.Agent (goes_to (at_stage a (stage.Reading size.FiveTwelve old)) (loaded_stage a.geometry t e k))) s.words [])
-loaded_keeps {a = a} {t = t} acting k found None known gives generations needs read made =
-    absurd (let both : None ≡ Some found = sym (no_descriptor k.word (granule_place a.geometry (address_of t)) read) ∙ gives ∙ needs in cc)
-loaded_keeps {s = s} {c = c} {a = a} {t = t} acting k found (Some (l1.Contig z v)) known gives generations needs read made =
+loaded_keeps {s = s} {a = a} {t = t} acting k None known gives generations read made =
+    absurd (let there = canonical_gives a.geometry.setup (map_in s) None (granule_of_task a.geometry t) k.word known in let both = rw read at there in cc)
+loaded_keeps {s = s} {c = c} {a = a} {t = t} acting k (Some (l1.Contig z v)) known gives generations read made =
     let g = a.geometry in
     let granule = granule_of_task g t in
     let next = loaded_stage g t (Some (l1.Contig z v)) k in
     load_quietly acting next (record { inside = refl; stays = refl; opened = refl; due = λ y. refl; front = refl }) made
-    (tables_after acting next s.words
-    (split_begin g (map_in s) (map holder_by s.callers) c granule z s.words (holder_at acting) (alone_there acting refl) acting.stands.tables.level1))
-    (record {
-      known = splits g.setup (map_in s) granule k.word z v known read;
-      needs = sym gives ∙ contiguous_gives k.word (granule_place g (address_of t)) z v read;
-      generations = generations;
-    }) refl
-loaded_keeps {s = s} {c = c} {a = a} {t = t} acting k found (Some (l1.Granules fields)) known gives generations needs read made =
+    (tables_after acting next (map_in s) s.words (split_begin g (map_in s) (holders_of s.callers) c granule z s.words (holder_at acting) (alone_there acting refl) acting.stands.tables.level1))
+    (record { known = splits g.setup (map_in s) granule k.word z v known read; gives = gives; generations = generations }) refl
+loaded_keeps {s = s} {c = c} {a = a} {t = t} acting k (Some (l1.Granules fields)) known gives generations read made =
     let g = a.geometry in
     let granule = granule_of_task g t in
     let next = stage.Changing (first_change t) k in
     load_quietly acting next (record { inside = refl; stays = refl; opened = refl; due = λ y. refl; front = first_entries g c (length a.answers) t k }) made
-    (tables_after acting next s.words
-    (no_split g (map_in s) (map holder_by s.callers) c granule s.words (holder_at acting) (alone_there acting refl) (looked_none g.setup (map_in s) granule k.word fields known read) acting.stands.tables.level1))
-    (record {
-      known = keeps g.setup (map_in s) granule k.word fields known read;
-      gives = gives ∙ needs ∙ ap Some (sym (first_from t found needs));
-      generations = generations;
-    }) refl
+    (tables_after acting next (map_in s) s.words
+    (no_split g (map_in s) (holders_of s.callers) c granule s.words (holder_at acting) (alone_there acting refl) (looked_none g.setup (map_in s) granule k.word fields known read) acting.stands.tables.level1))
+    (record { known = keeps g.setup (map_in s) granule k.word fields known read; gives = first_from t (map_in s granule) gives; generations = generations }) refl
 
 -- with all generations loaded
-all_read : {s : Scene} {c : ℕ} {a : AgentData} {t : Task} {old : Kept} (acting : Acting s c a t (stage.Reading size.FiveTwelve old)) (k : Kept) (found : Gpi) (o : Option Answer) → KnowsAt a.geometry (map_in s) t (stage.Reading size.FiveTwelve k)
-    → word_gpi k.word (granule_place a.geometry (address_of t)) ≡ needed t
-    → ((y : Size) → SeesGeneration a.geometry s.words t k.generations y) → needed t ≡ Some found → slice_get (state_in s).map (granule_of_task a.geometry t) ≡ Some found → worn_answer k.generations ≡ o
+all_read : {s : Scene} {c : ℕ} {a : AgentData} {t : Task} {old : Kept} (acting : Acting s c a t (stage.Reading size.FiveTwelve old)) (k : Kept) (o : Option Answer) → k.word ≡ canonical_word a.geometry.setup (map_in s) None (granule_of_task a.geometry t / 16)
+    → needed t ≡ Some (map_in s (granule_of_task a.geometry t)) → ((y : Size) → SeesGeneration a.geometry s.words t k.generations y) → worn_answer k.generations ≡ o
     → IsMade a.geometry (caller.Agent (goes_to (at_stage a (stage.Reading size.FiveTwelve old)) (read_all a.geometry o t k)))
     → HoldsIn a.geometry (scene_after s c (caller.Agent (goes_to (at_stage a (stage.Reading size.FiveTwelve old)) (read_all a.geometry o t k))) s.words (known_entries a.geometry c (length a.answers) t o))
-all_read acting k found None known gives generations needs map_gives fresh made = loaded_keeps acting k found (l1_entry k.word) known gives generations needs refl made
-all_read {s = s} {c = c} {a = a} {t = t} acting k found (Some given) known gives generations needs map_gives worn made =
+all_read acting k None known gives generations fresh made = loaded_keeps acting k (l1_entry k.word) known gives generations refl made
+all_read {s = s} {c = c} {a = a} {t = t} acting k (Some given) known gives generations worn made =
     let g = a.geometry in
     let counted : k.generations ≡ counts_around g.setup.first (granule_bytes g.setup) (granule_of_task g t) s.history =
     counts_from g.setup.first (granule_bytes g.setup) (granule_of_task g t) s.history k.generations
     (λ y. let seen = counts_of acting refl k.generations y (generations y) in omega (arith, seen)) in
-    let is = worn_is k.generations _ given worn in
-    refuse acting found given refl refl made refl (λ y. refl) map_gives (worn_with g c (length a.answers) t found given is.0 (generation_in is.0 k.generations) needs is.1) refl
-    (worn_counted g c (length a.answers) t found k.generations given s.history counted worn)
+    let is = some_mapped (λ (z : Size). answer.Worn z (generation_in z k.generations)) _ given worn in
+    refuse acting given refl refl made refl (λ y. refl) (worn_with g c (length a.answers) t (map_in s (granule_of_task g t)) given is.0 (generation_in is.0 k.generations) gives (sym is.2)) refl
+    (worn_counted g c (length a.answers) t (map_in s (granule_of_task g t)) k.generations given s.history counted worn)
 
 -- what is seen with the generation of this size loaded
 two_seen : (g : GeometryData) (words : List ℕ) (t : Task) (k : Kept) (old : ℕ) → old ≡ slice_index words (gen_place_of g size.Two (address_of t)) → (y : Size) → comes_before y size.ThirtyTwo ≡ true → SeesGeneration g words t (kept_read size.Two old k).generations y
@@ -264,21 +191,16 @@ two_seen g words t k old is size.Two before = sym is
 two_seen g words t k old is size.ThirtyTwo before = absurd cc
 two_seen g words t k old is size.FiveTwelve before = absurd cc
 
-thirty_two_seen : (g : GeometryData) (m : ℕ → Gpi) (words : List ℕ) (t : Task) (k : Kept) (old : ℕ) → SeesSome g m words t size.ThirtyTwo k → old ≡ slice_index words (gen_place_of g size.ThirtyTwo (address_of t)) → (y : Size) → comes_before y size.FiveTwelve ≡ true
+thirty_two_seen : (g : GeometryData) (words : List ℕ) (t : Task) (k : Kept) (old : ℕ) → SeesGenerations g words t (stage.Reading size.ThirtyTwo k) → old ≡ slice_index words (gen_place_of g size.ThirtyTwo (address_of t)) → (y : Size) → comes_before y size.FiveTwelve ≡ true
     → SeesGeneration g words t (kept_read size.ThirtyTwo old k).generations y
-thirty_two_seen g m words t k old sees is size.Two before = sees.generations size.Two refl
-thirty_two_seen g m words t k old sees is size.ThirtyTwo before = sym is
-thirty_two_seen g m words t k old sees is size.FiveTwelve before = absurd cc
+thirty_two_seen g words t k old sees is size.Two before = sees size.Two refl
+thirty_two_seen g words t k old sees is size.ThirtyTwo before = sym is
+thirty_two_seen g words t k old sees is size.FiveTwelve before = absurd cc
 
-all_seen : (g : GeometryData) (m : ℕ → Gpi) (words : List ℕ) (t : Task) (k : Kept) (old : ℕ) → SeesSome g m words t size.FiveTwelve k → old ≡ slice_index words (gen_place_of g size.FiveTwelve (address_of t)) → (y : Size) → SeesGeneration g words t (kept_read size.FiveTwelve old k).generations y
-all_seen g m words t k old sees is size.Two = sees.generations size.Two refl
-all_seen g m words t k old sees is size.ThirtyTwo = sees.generations size.ThirtyTwo refl
-all_seen g m words t k old sees is size.FiveTwelve = sym is
-
--- the GPI that it needs is the map's
-needs_of : {s : Scene} {c : ℕ} {a : AgentData} {t : Task} {st : Stage} (acting : Acting s c a t st) (word : ℕ) (apart : Option ℕ) (o : Option Gpi) → word ≡ canonical_word a.geometry.setup (map_in s) apart (granule_of_task a.geometry t / 16)
-    → word_gpi word (granule_place a.geometry (address_of t)) ≡ o → o ≡ Some (map_in s (granule_of_task a.geometry t))
-needs_of {s = s} {a = a} {t = t} acting word apart o is gives = sym gives ∙ canonical_gives a.geometry.setup (map_in s) apart (granule_of_task a.geometry t) word is
+all_seen : (g : GeometryData) (words : List ℕ) (t : Task) (k : Kept) (old : ℕ) → SeesGenerations g words t (stage.Reading size.FiveTwelve k) → old ≡ slice_index words (gen_place_of g size.FiveTwelve (address_of t)) → (y : Size) → SeesGeneration g words t (kept_read size.FiveTwelve old k).generations y
+all_seen g words t k old sees is size.Two = sees size.Two refl
+all_seen g words t k old sees is size.ThirtyTwo = sees size.ThirtyTwo refl
+all_seen g words t k old sees is size.FiveTwelve = sym is
 
 read_at : {s : Scene} {c : ℕ} {a : AgentData} {t : Task} (z : Size) (k : Kept) (old : ℕ) (acting : Acting s c a t (stage.Reading z k)) → old ≡ slice_index s.words (gen_place_of a.geometry z (address_of t))
     → HoldsIn a.geometry (scene_after s c (caller.Agent (goes_to (at_stage a (stage.Reading z k)) (read_stage a.geometry t z (kept_read z old k)))) s.words (made_at a.geometry c (length a.answers) (stage.Reading z k) (Some t) old))
@@ -293,12 +215,10 @@ read_at {s = s} {a = a} {t = t} size.ThirtyTwo k old acting is =
     let next = stage.Reading size.FiveTwelve (kept_read size.ThirtyTwo old k) in
     load_quietly acting next (record { inside = refl; stays = refl; opened = refl; due = λ y. refl; front = refl }) (acting.made old)
     (tables_stay acting refl next refl (writes_none a.geometry s.words) refl)
-    (record { known = sees.known; gives = sees.gives; generations = thirty_two_seen a.geometry (map_in s) s.words t k old sees is }) refl
+    (record { known = sees.known; gives = sees.gives; generations = thirty_two_seen a.geometry s.words t k old sees.generations is }) refl
 read_at {s = s} {a = a} {t = t} size.FiveTwelve k old acting is =
     let sees = seen_of acting in
-    let needs = needs_of acting k.word None (needed t) sees.known sees.gives in
-    all_read acting (kept_read size.FiveTwelve old k) (map_in s (granule_of_task a.geometry t)) (worn_answer (kept_read size.FiveTwelve old k).generations) sees.known sees.gives
-    (all_seen a.geometry (map_in s) s.words t k old sees is) needs (map_has acting) refl (acting.made old)
+    all_read acting (kept_read size.FiveTwelve old k) (worn_answer (kept_read size.FiveTwelve old k).generations) sees.known sees.gives (all_seen a.geometry s.words t k old sees.generations is) refl (acting.made old)
 
 pub read_keeps : {s : Scene} {c : ℕ} {a : AgentData} {t : Task} (z : Size) (k : Kept) → Acting s c a t (stage.Reading z k) → ActKeeps s c a t (stage.Reading z k) (gen_load_of a.geometry z (address_of t))
 read_keeps {s = s} {c = c} {a = a} {t = t} z k acting =

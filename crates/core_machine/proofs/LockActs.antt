@@ -5,51 +5,20 @@ use Rattle.std.specs.Int.{bit_not, w64}
 use Rattle.std.specs.Int.Bits.{bit_and, bit_or}
 use Rattle.std.specs.List.{list_any}
 use Rattle.std.proofs.lemmas.Bool.{cases_Bool, eqb-true, eq-eqb}
-use Rattle.gpi_values.specs.declared.gpi.Gpi.{Gpi}
-use Rattle.gpt_descriptors.specs.declared.size.Size.{Size}
-use Rattle.gpt_descriptors.specs.Sizes.{granule_bytes}
-use Rattle.gpt_descriptors.specs.Places.{GeometryData, Lock}
-use Rattle.shared_words.specs.declared.act.Act.{Act}
-use Rattle.shared_words.specs.Acts.{answer_of, after_act}
-use Rattle.bit_locks.specs.Locks.{lock_bit, take_act, release_act}
-use Rattle.history.specs.declared.call.Task.{Task}
-use Rattle.history.specs.declared.call.Task.TheVariants as task
-use Rattle.history.specs.declared.call.Answer.{Answer}
-use Rattle.history.specs.declared.call.Answer.TheVariants as answer
-use Rattle.history.specs.declared.entry.Entry.{Entry}
-use Rattle.history.specs.Counts.{is_by}
-use Rattle.history.specs.Calls.{entries_by, answered_entries}
-use Rattle.delegate_ops.specs.declared.stage.Stage.{Stage}
-use Rattle.delegate_ops.specs.declared.stage.Stage.TheVariants as stage
-use Rattle.delegate_ops.specs.Deciding.{idle_answer, is_unusable}
-use Rattle.delegate_ops.specs.InnerAgents.{AgentData, IsReadable, answered_first, idle_answers, goes_to, waits_at, after_answer, took_at}
+use Rattle.core_machine.proofs.Names.{Gpi, Size, granule_bytes, GeometryData, Lock, Act, answer_of, after_act, lock_bit, take_act, release_act, Task, Answer, Entry, is_by, entries_by, answered_entries, Stage, idle_answer, AgentData, idle_answers, goes_to, took_at, Caller, holds, holder_by, Sees, open_by, is_due, known_answers, caller_tasks, IsMade, Whole, step_of, HoldsIn, Scene, scene_after, IsCounted, lock_bit_of, made_at, known_at}
+use Rattle.core_machine.proofs.Names.stage
+use Rattle.core_machine.proofs.Names.caller
+use Rattle.delegate_ops.specs.InnerAgents.{IsReadable, answered_first, waits_at, after_answer}
 use Rattle.delegate_ops.proofs.AgentLemmas.{at_stage}
-use Rattle.core_machine.specs.declared.caller.Caller.{Caller}
-use Rattle.core_machine.specs.declared.caller.Caller.TheVariants as caller
 use Rattle.core_machine.specs.InnerCallers.{own_of, call_of}
-use Rattle.core_machine.specs.InnerLocks.{holds}
-use Rattle.table_meaning.specs.Equation.{Whole}
-use Rattle.table_meaning.specs.Facts.{step_of}
-use Rattle.core_machine.specs.InnerTables.{known_at, holder_by}
-use Rattle.core_machine.proofs.HolderLemmas.{tables_whole}
-use Rattle.core_machine.specs.InnerSeen.{Sees}
-use Rattle.core_machine.specs.InnerOpened.{open_by}
-use Rattle.core_machine.specs.InnerRaised.{is_due}
-use Rattle.core_machine.specs.InnerCounted.{known_answers, caller_tasks}
-use Rattle.core_machine.specs.InnerAlone.{IsAlone}
-use Rattle.core_machine.specs.InnerInvariant.{IsMade}
-use Rattle.core_machine.specs.InnerScene.{Scene, state_in, HoldsIn, scene_after}
+use Rattle.core_machine.specs.InnerInvariant.{IsAlone}
 use Rattle.core_machine.proofs.ListLemmas.{one, get_append}
 use Rattle.core_machine.proofs.LockLemmas.{holder_bit, take_free, take_held, release_held}
-use Rattle.core_machine.proofs.WordLemmas.{writes_one, generations_left}
-use Rattle.core_machine.proofs.OpenedLemmas.{opened_stays}
-use Rattle.core_machine.proofs.StepLemmas.{step_keeps}
-use Rattle.core_machine.proofs.ToldLemmas.{answered_call}
+use Rattle.core_machine.proofs.WordLemmas.{writes_one}
+use Rattle.core_machine.proofs.StepLemmas.{aside_keeps}
+use Rattle.core_machine.proofs.ToldLemmas.{answered_call, idle_is}
 use Rattle.core_machine.proofs.AloneLemmas.{alone_starts, own_numbers, no_own}
-use Rattle.core_machine.proofs.ActLemmas.{Acting, low_of, lock_of_task, others_stay}
-use Rattle.core_machine.specs.Facts.{IsCounted}
-use Rattle.delegate_ops.specs.Script.{lock_bit_of}
-use Rattle.delegate_ops.specs.InnerEntries.{made_at}
+use Rattle.core_machine.proofs.ActLemmas.{Acting, low_of, lock_of_task}
 
 -- what an act keeps that is made at a stage
 abbrev pub ActKeeps : Scene → ℕ → AgentData → Task → Stage → Act → Type 0
@@ -66,25 +35,23 @@ lock_keeps : {s : Scene} {c : ℕ} {a : AgentData} {t : Task} {st : Stage} (acti
     → ((k : ℕ) (u : Task) (given : Answer) → slice_get (caller_tasks x) k ≡ Some u → slice_get (known_answers x) k ≡ Some given → IsCounted a.geometry c k u given s.history)
     → own_of c x ≡ own_of c (caller.Agent (at_stage a st)) → HoldsIn a.geometry (scene_after s c x (set s.words (lock_of_task a t / 64) v) [])
 lock_keeps {s = s} {c = c} {a = a} {t = t} {st = st} acting v x made opened due sees before whole locks alone counted own =
-    let me = caller.Agent (at_stage a st) in
-    let row : lock_of_task a t / 64 < 2 = omega (arith, low_of acting) in
-    let writes = writes_one a.geometry s.words (Lock (lock_of_task a t / 64)) v row in
-    step_keeps a.geometry s c me x (Some (Lock (lock_of_task a t / 64))) (set s.words (lock_of_task a t / 64) v) None acting.stands
-    (record {
+    aside_keeps {n = Some (Lock (lock_of_task a t / 64))} (record {
+      stands = acting.stands;
       at = acting.at;
       made = made;
-      writes = writes;
-      entry = tt;
-      tables = tables_whole acting x before whole writes refl;
-      opened = opened_stays (state_in s).opened (state_in s).opened s.callers c me x acting.at acting.stands.opened refl opened;
+      writes = writes_one a.geometry s.words (Lock (lock_of_task a t / 64)) v (omega (arith, low_of acting));
+      no_level1 = refl;
+      no_generation = refl;
+      idle = refl;
+      before = before;
+      whole = whole;
+      opened = opened;
+      due = due;
       locks = locks;
       seen = sees _ _;
-      others = others_stay acting writes tt;
-      raised = λ y region within. rw (generations_left writes refl y region within, due y region) (omega arith);
       alone = alone;
-      counted = λ k u given asked answered. subst (IsCounted a.geometry c k u given) (sym (append-nil s.history)) (counted k u given asked answered);
-      own = own ∙ sym (append-nil _);
-      idle = refl;
+      counted = counted;
+      own = own;
     })
 
 -- ---- taking a lock
@@ -109,13 +76,13 @@ take_keeps {s = s} {c = c} {a = a} {t = t} acting =
       elim (cases_Bool (eqb (bit_and word (2 ^ (n % 64))) 0)) [
         | inl free ↦
             rw free
-            (lock_keeps acting (bit_or word (2 ^ (n % 64))) (caller.Agent (goes_to me stage.Looking)) (rw free at made) refl (λ y region. refl) (λ m after. tt) refl refl
+            (lock_keeps acting (bit_or word (2 ^ (n % 64))) (caller.Agent (goes_to me stage.Looking)) (rw free at made) refl (λ y region. refl) (λ m after u under_way. record { known = tt; gives = tt; generations = tt }) refl refl
             (λ m below. rw acting.under_way (take_free s.words n m within (eqb-true _ _ free)))
             (λ m has. alone_starts a.geometry.setup m c (length a.answers) s.history (none_yet acting))
             (λ k u given asked answered. counted k (caller.Agent me) u given acting.at asked answered) refl)
         | inr held ↦
             rw held
-            (lock_keeps acting (bit_or word (2 ^ (n % 64))) (caller.Agent (waits_at me)) (rw held at made) refl (λ y region. refl) (λ m after. tt) refl refl
+            (lock_keeps acting (bit_or word (2 ^ (n % 64))) (caller.Agent (waits_at me)) (rw held at made) refl (λ y region. refl) (λ m after u under_way. record { known = tt; gives = tt; generations = tt }) refl refl
             (λ m below. ap (λ (bit : ℕ). bit + 0) (take_held s.words n m within (λ free. absurd (let both = eq-eqb _ _ free in cc)))) (λ m has. absurd cc)
             (λ k u given asked answered. counted k (caller.Agent me) u given acting.at asked answered) refl)
       ],
@@ -125,22 +92,7 @@ take_keeps {s = s} {c = c} {a = a} {t = t} acting =
 
 -- answers without acts count nothing
 idle_one : (g : GeometryData) (c k : ℕ) (t u : Task) (given : Answer) (h : List Entry) → idle_answer g t ≡ Some given → IsCounted g c k u given h
-idle_one g c k task.Unknown u given h idle = subst (λ (x : Answer). IsCounted g c k u x h) (let same : answer.Unknown ≡ given = cc in same) tt
-idle_one g c k (task.Delegate pa source) u given h idle =
-    elim (cases_Bool (is_unusable g pa)) [
-      | inl bad ↦ subst (λ (x : Answer). IsCounted g c k u x h) (let both = rw bad at idle in let same : answer.Inval ≡ given = cc in same) tt
-      | inr good ↦ absurd (let both = rw good at idle in cc)
-    ]
-idle_one g c k (task.Undelegate pa source) u given h idle =
-    elim (cases_Bool (is_unusable g pa)) [
-      | inl bad ↦ subst (λ (x : Answer). IsCounted g c k u x h) (let both = rw bad at idle in let same : answer.Inval ≡ given = cc in same) tt
-      | inr good ↦ absurd (let both = rw good at idle in cc)
-    ]
-idle_one g c k (task.Look pa space) u given h idle =
-    elim (cases_Bool (is_unusable g pa)) [
-      | inl bad ↦ subst (λ (x : Answer). IsCounted g c k u x h) (let both = rw bad at idle in let same : answer.Inval ≡ given = cc in same) tt
-      | inr good ↦ absurd (let both = rw good at idle in cc)
-    ]
+idle_one g c k t u given h idle = elim (idle_is g t given idle) [ inl is ↦ subst (λ (x : Answer). IsCounted g c k u x h) (sym is) tt | inr is ↦ subst (λ (x : Answer). IsCounted g c k u x h) (sym is) tt ]
 
 idle_head : (g : GeometryData) (c k i : ℕ) (t : Task) (o : Option Answer) (answers : List Answer) (u : Task) (given : Answer) (h : List Entry) → idle_answer g t ≡ o
     → ((j : ℕ) → slice_get answers j ≡ Some given → IsCounted g c k u given h) → slice_get (answered_first o answers) i ≡ Some given → IsCounted g c k u given h
@@ -163,7 +115,7 @@ release_keeps {s = s} {c = c} {a = a} {t = t} given acting =
     let has : holds n (caller.Agent me) ≡ true = rw acting.under_way (eq-eqb n n refl) in
     let set_bit : lock_bit s.words n ≡ 1 = holder_bit s.words s.callers c n (caller.Agent me) acting.at acting.stands.locks (low_of acting) has in (
       tt,
-      lock_keeps acting (bit_and (slice_index s.words (n / 64)) (bit_not w64 (2 ^ (n % 64)))) (caller.Agent (after_answer me given)) (acting.made 0) refl (λ y region. refl) (λ m after. tt) refl refl
+      lock_keeps acting (bit_and (slice_index s.words (n / 64)) (bit_not w64 (2 ^ (n % 64)))) (caller.Agent (after_answer me given)) (acting.made 0) refl (λ y region. refl) (λ m after u under_way. record { known = tt; gives = tt; generations = tt }) refl refl
           (λ m below. rw acting.under_way (release_held s.words n m within set_bit))
           (λ m has_it. absurd cc)
           (λ k u found asked answered.

@@ -1,17 +1,15 @@
 -- Locks: how an act on the words and a step of a caller change who holds what.
-use Rattle.std.proofs.Common.{◌≡◌, ◌≢◌, ℕ, zero, suc, ◌+◌, ◌^◌, ◌∷◌, [], ◌/◌, ◌%◌, ◌≤◌, ◌<◌, List, Bool, true, eqb, Some, length, set, refl, sym, arith, inl, inr}
+use Rattle.std.proofs.Common.{◌≡◌, ◌≢◌, ℕ, ◌+◌, ◌^◌, ◌/◌, ◌%◌, ◌≤◌, ◌<◌, List, true, eqb, Some, length, set, refl, sym, arith, inl, inr}
 use Rattle.std.specs.Prelude.{slice_get, slice_index}
 use Rattle.std.specs.Int.{bit_not, w64}
 use Rattle.std.specs.Int.Bits.{bit_and, bit_or}
 use Rattle.std.specs.List.{count_by}
 use Rattle.std.proofs.lemmas.Bool.{cases_eq, eq-eqb, ne_eqb}
-use Rattle.std.proofs.lemmas.List.Sums.{sum_by-cons}
 use Rattle.std.proofs.lemmas.Nat.Bits.{bit_at-lt}
-use Rattle.bit_locks.specs.Locks.{lock_bit}
+use Rattle.core_machine.proofs.Names.{lock_bit, Caller, holds}
 use Rattle.bit_locks.proofs.BitLemmas.{taken_bit, released_bit, mask_free}
-use Rattle.core_machine.specs.declared.caller.Caller.{Caller}
-use Rattle.core_machine.specs.InnerLocks.{holds, LocksAreHeld}
-use Rattle.core_machine.proofs.ListLemmas.{one, count_set}
+use Rattle.core_machine.proofs.ListLemmas.{one, count_set, some_pass, pass_once}
+use Rattle.core_machine.specs.InnerInvariant.{LocksAreHeld}
 
 -- one caller steps, and the words change with what it holds
 pub locks_keep : (words after : List ℕ) (callers : List Caller) (c : ℕ) (a x : Caller) → slice_get callers c ≡ Some a → LocksAreHeld words callers
@@ -19,22 +17,16 @@ pub locks_keep : (words after : List ℕ) (callers : List Caller) (c : ℕ) (a x
 locks_keep words after callers c a x at held change n below =
     omega (arith, held n below, change n below, count_set (holds n) callers c a x at)
 
-pub some_pass : (p : Caller → Bool) (callers : List Caller) (c : ℕ) (a : Caller) → slice_get callers c ≡ Some a → p a ≡ true → 1 ≤ count_by p callers
-some_pass p [] c a at passes = absurd cc
-some_pass p (x ∷ callers) zero a at passes =
-    let same : x ≡ a = cc in
-    let first : one (p x) ≡ 1 = rw (same, passes) refl in
-    let counted : count_by p (x ∷ callers) ≡ one (p x) + count_by p callers = sum_by-cons (λ y. one (p y)) x callers in
-    omega (arith, first, counted)
-some_pass p (x ∷ callers) (suc c) a at passes =
-    let counted : count_by p (x ∷ callers) ≡ one (p x) + count_by p callers = sum_by-cons (λ y. one (p y)) x callers in
-    omega (arith, some_pass p callers c a at passes, counted)
-
 -- a holder's bit is set
 pub holder_bit : (words : List ℕ) (callers : List Caller) (c n : ℕ) (a : Caller) → slice_get callers c ≡ Some a → LocksAreHeld words callers → n < 128 → holds n a ≡ true → lock_bit words n ≡ 1
 holder_bit words callers c n a at held below has =
     let some : 1 ≤ count_by (holds n) callers = some_pass (holds n) callers c a at has in
     omega (arith, held n below, some, bit_at-lt (slice_index words (n / 64)) (n % 64))
+
+-- no other caller holds it
+pub one_holder : (words : List ℕ) (callers : List Caller) (c d n : ℕ) (a y : Caller) → LocksAreHeld words callers → n < 128 → slice_get callers c ≡ Some a → slice_get callers d ≡ Some y → holds n a ≡ true → holds n y ≡ true → d ≡ c
+one_holder words callers c d n a y held below at there first second =
+    pass_once (holds n) callers c d a y (omega (arith, held n below, bit_at-lt (slice_index words (n / 64)) (n % 64))) at there first second
 
 -- ---- the bits of the acts
 

@@ -1,70 +1,119 @@
 -- Turns: what they keep.
-use Rattle.std.proofs.Common.{◌≡◌, ℕ, take, replicate, ◌<◌, ◌++◌, ◌∷◌, [], List, zero, suc, get_or, set, ◌+◌, ◌/◌, ◌%◌, true, false, Option, Some, None, length, refl, sym, ap, ◌∙◌, subst, arith, append_assoc, append-nil}
+use Rattle.std.proofs.Common.{◌≡◌, ℕ, take, map, replicate, ◌<◌, ◌++◌, ◌∷◌, [], List, zero, suc, get_or, set, ◌+◌, Option, Some, None, length, refl, sym, ap, ◌∙◌, subst, arith, append_assoc, append-nil}
 use Rattle.std.specs.Prelude.{slice_get}
-use Rattle.std.specs.Int.{bit_at}
-use Rattle.std.specs.List.{All, count_by}
-use Rattle.std.specs.List.{flat_map, range_with_len}
+use Rattle.std.specs.List.{All, flat_map, range_with_len}
+use Rattle.std.proofs.lemmas.List.Elements.{All-append, All-cons, All-nil}
+use Rattle.std.proofs.lemmas.Option.{slice_get_within}
 use Rattle.std.proofs.lemmas.List.Concat.{flat_map-cons}
 use Rattle.std.proofs.lemmas.Grind.{flat_map-append}
 use Rattle.std.proofs.lemmas.List.{set-get_or, length-set, replicate-append-replicate, take_more}
-use Rattle.std.proofs.lemmas.List.Sums.{sum_by-cons}
-use Rattle.std.proofs.lemmas.List.Elements.{All-head, All-tail, All-nil, All-weaker}
-use Rattle.std.proofs.lemmas.Nat.Bits.{bit_at-zero}
-use Rattle.std.proofs.lemmas.Option.{slice_get_within, get_or_from_slice_get}
-use Rattle.gpi_values.specs.declared.gpi.Gpi.{Gpi}
-use Rattle.gpt_descriptors.specs.declared.size.Size.{Size}
-use Rattle.gpt_descriptors.specs.Sizes.{granule_bytes}
-use Rattle.gpt_descriptors.specs.Places.{GeometryData}
-use Rattle.shared_words.specs.declared.act.Act.{Act}
-use Rattle.shared_words.specs.Acts.{place_in, answer_of, after_act, said}
-use Rattle.history.specs.declared.entry.Entry.{Entry}
-use Rattle.history.specs.Entries.{caller_in}
-use Rattle.history.specs.Calls.{answered_entries}
-use Rattle.history.specs.declared.call.Task.{Task}
-use Rattle.history.specs.declared.call.Answer.{Answer}
-use Rattle.delegate_ops.specs.InnerAgents.{AgentData, idle_answers}
-use Rattle.delegate_ops.proofs.ScriptLemmas.{fresh_walked}
-use Rattle.core_machine.specs.InnerOpened.{open_by, pairs_of}
-use Rattle.core_machine.specs.InnerSeen.{Sees}
-use Rattle.core_machine.specs.InnerRaised.{is_due}
-use Rattle.core_machine.specs.InnerCounted.{known_answers}
-use Rattle.core_machine.proofs.AloneLemmas.{undisturbed_empty}
-use Rattle.core_machine.proofs.OthersLemmas.{count_none}
-use Rattle.core_machine.proofs.LockActs.{idle_counted}
-use Rattle.core_machine.specs.declared.caller.Caller.{Caller}
-use Rattle.core_machine.specs.declared.caller.Caller.TheVariants as caller
-use Rattle.core_machine.specs.InnerCallers.{caller_next, caller_took, own_of, MayTake}
-use Rattle.core_machine.specs.InnerLocks.{holds}
-use Rattle.core_machine.specs.InnerInvariant.{IsMade, Invariant}
-use Rattle.core_machine.specs.InnerOpening.{IsFresh, AreStarting}
-use Rattle.core_machine.specs.InnerMachine.{MachineData, InvariantFor, after_act_of, act_entries_of, after_turn_of, turn_entries_of, after_turn, turn_entries, after_turns, entries_in}
-use Rattle.core_machine.proofs.ListLemmas.{one}
-use Rattle.core_machine.proofs.ToldLemmas.{idle_entries}
-use Rattle.core_machine.specs.InnerScene.{Scene}
+use Rattle.core_machine.proofs.Names.{Gpi, Act, place_in, answer_of, after_act, Entry, Caller, caller_next, caller_took, MachineData, InvariantFor, after_turn, after_turns, scene_of, trace_of, TraceEvent, history_of}
+use Rattle.shared_words.specs.Acts.{said}
+use Rattle.core_machine.specs.InnerCallers.{made_by, MayTake}
+use Rattle.core_machine.specs.InnerMachine.{HasInvariant, KeepsInvariant, after_act_of, after_turn_of, event_of, turn_entries, turn_event, turn_event_of}
 use Rattle.core_machine.proofs.LawLemmas.{one_act}
-use Rattle.core_machine.proofs.OpeningLemmas.{opening_tables}
-use Rattle.core_machine.specs.Facts.{IsCounted, map_after}
 use Rattle.core_machine.specs.Scenarios.{round_turns}
-use Rattle.delegate_ops.specs.InnerScript.{HasWalked}
 
--- ---- one turn
+-- ---- what holds along turns
 
--- a machine as a scene
-abbrev pub scene_of : List Gpi → MachineData → List Entry → Scene
-scene_of first m h = record { first = first; words = m.words; callers = m.callers; history = h }
+-- What holds over no events, over two parts in a row, and over each act of a machine of which K holds, where the act
+-- keeps K.
+pub record Along (K : MachineData → Type 0) (R : MachineData → List TraceEvent → MachineData → Type 0) : Type 0 where
+  pub none : (m : MachineData) → R m [] m
+  pub more : (m n p : MachineData) (xs ys : List TraceEvent) → R m xs n → R n ys p → R m (xs ++ ys) p
+  pub act : (m : MachineData) (c : ℕ) (a : Caller) (t : Act) → K m → slice_get m.callers c ≡ Some a → caller_next a ≡ Some t → R m (event_of m c a (Some t)) (after_act_of m c a (Some t))
+  pub keeps : (m : MachineData) (c : ℕ) (a : Caller) (t : Act) → K m → slice_get m.callers c ≡ Some a → caller_next a ≡ Some t → K (after_act_of m c a (Some t))
 
-act_stands : (first : List Gpi) (m : MachineData) (h : List Entry) (c : ℕ) (a : Caller) (o : Option Act) → InvariantFor first m h → slice_get m.callers c ≡ Some a → caller_next a ≡ o
-    → InvariantFor first (after_act_of m c a o) (h ++ act_entries_of m c a o)
-act_stands first m h c a None stands at next = rw (append-nil h) stands
-act_stands first m h c a (Some t) stands at next = (one_act m.geometry (scene_of first m h) c a t stands at next).2
+module _ (K : MachineData → Type 0) (R : MachineData → List TraceEvent → MachineData → Type 0) (rule : Along K R) where
+  act_along : (m : MachineData) (c : ℕ) (a : Caller) (o : Option Act) → K m → slice_get m.callers c ≡ Some a → caller_next a ≡ o → R m (event_of m c a o) (after_act_of m c a o) × K (after_act_of m c a o)
+  act_along m c a None k at next = (rule.none m, k)
+  act_along m c a (Some t) k at next = (rule.act m c a t k at next, rule.keeps m c a t k at next)
 
-turn_stands_of : (first : List Gpi) (m : MachineData) (h : List Entry) (c : ℕ) (o : Option Caller) → InvariantFor first m h → slice_get m.callers c ≡ o
-    → InvariantFor first (after_turn_of m c o) (h ++ turn_entries_of m c o)
-turn_stands_of first m h c None stands at = rw (append-nil h) stands
-turn_stands_of first m h c (Some a) stands at = act_stands first m h c a (caller_next a) stands at refl
+  pub turn_along : (m : MachineData) (c : ℕ) (o : Option Caller) → K m → slice_get m.callers c ≡ o → R m (turn_event_of m c o) (after_turn_of m c o) × K (after_turn_of m c o)
+  turn_along m c None k at = (rule.none m, k)
+  turn_along m c (Some a) k at = act_along m c a (caller_next a) k at refl
+
+  -- over the events of turns
+  pub along : (m : MachineData) (turns : List ℕ) → K m → R m (trace_of m turns) (after_turns m turns)
+  along m [] k = rule.none m
+  along m (c ∷ turns) k =
+      let now = turn_along m c (slice_get m.callers c) k refl in
+      rule.more m (after_turn m c) (after_turns (after_turn m c) turns) (turn_event m c) (trace_of (after_turn m c) turns) now.0 (along (after_turn m c) turns now.1)
+
+-- what holds of each machine
+abbrev pub Always : MachineData → Type 0
+Always m = Unit {0}
+
+-- ---- the invariant
+
+abbrev KeepsAlong : MachineData → List TraceEvent → MachineData → Type 0
+KeepsAlong m xs n = KeepsInvariant m n (history_of xs)
+
+act_keeps : (first : List Gpi) (m : MachineData) (h : List Entry) (c : ℕ) (a : Caller) (t : Act) → InvariantFor first m h → slice_get m.callers c ≡ Some a → caller_next a ≡ Some t
+    → InvariantFor first (after_act_of m c a (Some t)) (h ++ history_of (event_of m c a (Some t)))
+act_keeps first m h c a t stands at next =
+    let old = answer_of t m.words in
+    let made = made_by c a old in
+    subst (λ (es : List Entry). InvariantFor first (after_act_of m c a (Some t)) (h ++ es)) (sym (flat_map-cons (λ (e : TraceEvent). e.event.made) (record { caller = c; event = record { act = t; old = old; made = made } }) [] ∙ append-nil made))
+    (one_act m.geometry (scene_of first m h) c a t stands at next).2
+
+keeps_along : Along Always KeepsAlong
+keeps_along = record {
+  none = λ m first h stands. rw (append-nil h) stands;
+  more = λ m n p xs ys now later first h stands.
+      subst (InvariantFor first p) (append_assoc h (history_of xs) (history_of ys) ∙ ap (λ (es : List Entry). h ++ es) (sym (flat_map-append (λ (e : TraceEvent). e.event.made) xs ys)))
+      (later first (h ++ history_of xs) (now first h stands));
+  act = λ m c a t k at next first h stands. act_keeps first m h c a t stands at next;
+  keeps = λ m c a t k at next. tt;
+}
 
 pub turn_holds : (first : List Gpi) (m : MachineData) (h : List Entry) (c : ℕ) → InvariantFor first m h → InvariantFor first (after_turn m c) (h ++ turn_entries m c)
-turn_holds first m h c stands = turn_stands_of first m h c (slice_get m.callers c) stands refl
+turn_holds first m h c stands = (turn_along Always KeepsAlong keeps_along m c (slice_get m.callers c) tt refl).0 first h stands
+
+pub turns_hold : (first : List Gpi) (m : MachineData) (h : List Entry) (turns : List ℕ) → InvariantFor first m h → InvariantFor first (after_turns m turns) (h ++ history_of (trace_of m turns))
+turns_hold first m h turns stands = along Always KeepsAlong keeps_along m turns tt first h stands
+
+-- each act keeps it
+pub act_has : (m : MachineData) (c : ℕ) (a : Caller) (t : Act) → HasInvariant m → slice_get m.callers c ≡ Some a → caller_next a ≡ Some t → HasInvariant (after_act_of m c a (Some t))
+act_has m c a t has at next = (has.0, has.1 ++ history_of (event_of m c a (Some t)), act_keeps has.0 m has.1 c a t has.2 at next)
+
+-- ---- what turns leave
+
+-- the geometry and the number of callers; and each event is one of a caller
+abbrev LeavesShape : MachineData → List TraceEvent → MachineData → Type 0
+LeavesShape m xs n = (n.geometry ≡ m.geometry) × (length n.callers ≡ length m.callers) × All (λ e. e.caller < length m.callers) xs
+
+shape_along : Along Always LeavesShape
+shape_along = record {
+  none = λ m. (refl, refl, All-nil (λ e. e.caller < length m.callers));
+  more = λ m n p xs ys now later.
+      (later.0 ∙ now.0, later.1 ∙ now.1, All-append (λ e. e.caller < length m.callers) xs ys now.2 (subst (λ (k : ℕ). All (λ (e : TraceEvent). e.caller < k) ys) now.1 later.2));
+  act = λ m c a t k at next.
+      (refl, length-set m.callers c (caller_took a (answer_of t m.words)), All-cons (λ e. e.caller < length m.callers) _ [] (slice_get_within m.callers c a at) (All-nil (λ e. e.caller < length m.callers)));
+  keeps = λ m c a t k at next. tt;
+}
+
+pub turns_shape : (m : MachineData) (turns : List ℕ) → LeavesShape m (trace_of m turns) (after_turns m turns)
+turns_shape m turns = along Always LeavesShape shape_along m turns tt
+
+-- and what no step of a caller changes
+abbrev pub IsLeft : {X : Type 0} → (Caller → X) → Type 0
+IsLeft f = (x : Caller) (old : ℕ) → f (caller_took x old) ≡ f x
+
+set_leaves : {X : Type 0} (f : Caller → X) (callers : List Caller) (c : ℕ) (a x : Caller) → slice_get callers c ≡ Some a → f x ≡ f a → map f (set callers c x) ≡ map f callers
+set_leaves f [] c a x at same = refl
+set_leaves f (y ∷ callers) zero a x at same = let here : y ≡ a = cc in ap (λ v. v ∷ map f callers) (same ∙ ap f (sym here))
+set_leaves f (y ∷ callers) (suc c) a x at same = ap (λ vs. f y ∷ vs) (set_leaves f callers c a x at same)
+
+pub turns_leave : {X : Type 0} (f : Caller → X) (m : MachineData) (turns : List ℕ) → IsLeft f → map f (after_turns m turns).callers ≡ map f m.callers
+turns_leave {X = X} f m turns left =
+    along Always (λ (m : MachineData) (xs : List TraceEvent) (n : MachineData). map f n.callers ≡ map f m.callers)
+    (record {
+      none = λ m. refl;
+      more = λ m n p xs ys now later. later ∙ now;
+      act = λ m c a t k at next. set_leaves f m.callers c a (caller_took a (answer_of t m.words)) at (left a (answer_of t m.words));
+      keeps = λ m c a t k at next. tt;
+    }) m turns tt
 
 -- ---- the code's turn
 
@@ -96,109 +145,11 @@ kept m c a within here next =
 
 -- ---- a list of turns
 
-pub turns_hold : (first : List Gpi) (m : MachineData) (h : List Entry) (turns : List ℕ) → InvariantFor first m h → InvariantFor first (after_turns m turns) (h ++ entries_in m turns)
-turns_hold first m h [] stands = rw (append-nil h) stands
-turns_hold first m h (c ∷ turns) stands =
-    subst (InvariantFor first (after_turns (after_turn m c) turns)) (append_assoc h (turn_entries m c) (entries_in (after_turn m c) turns))
-    (turns_hold first (after_turn m c) (h ++ turn_entries m c) turns (turn_holds first m h c stands))
-
 pub after_turns-append : (m : MachineData) (xs ys : List ℕ) → after_turns m (xs ++ ys) ≡ after_turns (after_turns m xs) ys
 after_turns-append m [] ys = refl
 after_turns-append m (c ∷ xs) ys = after_turns-append (after_turn m c) xs ys
 
--- ---- before the first act
-
-fresh_holds : (g : GeometryData) (n : ℕ) (x : Caller) → IsFresh g x → holds n x ≡ false
-fresh_holds g n (caller.Agent a) is = ap (λ (b : AgentData). holds n (caller.Agent b)) is.0
-fresh_holds g n (caller.Cpu looks) is = refl
-
-none_holds : (n : ℕ) (callers : List Caller) → All (λ x. holds n x ≡ false) callers → count_by (holds n) callers ≡ 0
-none_holds n [] none = refl
-none_holds n (x ∷ callers) none =
-    let counted : count_by (holds n) (x ∷ callers) ≡ one (holds n x) + count_by (holds n) callers = sum_by-cons (λ y. one (holds n y)) x callers in
-    let first : one (holds n x) ≡ 0 = ap one (All-head (λ y. holds n y ≡ false) x callers none) in
-    omega (arith, counted, first, none_holds n callers (All-tail (λ y. holds n y ≡ false) x callers none))
-
-fresh_made : (g : GeometryData) (x : Caller) → IsFresh g x → IsMade g x
-fresh_made g (caller.Agent a) is =
-    (ap (λ (b : AgentData). b.geometry) is.0, is.1, 0, [], subst (λ (b : AgentData). HasWalked 0 b []) (sym is.0) (fresh_walked g a.tasks 0))
-fresh_made g (caller.Cpu looks) is = tt
-
-fresh_own : (g : GeometryData) (c : ℕ) (x : Caller) → IsFresh g x → own_of c x ≡ []
-fresh_own g c (caller.Agent a) is =
-    ap (λ (b : AgentData). own_of c (caller.Agent b)) is.0
-    ∙ append-nil (answered_entries (granule_bytes g.setup) c 0 a.tasks (idle_answers g a.tasks))
-    ∙ idle_entries g (granule_bytes g.setup) c 0 a.tasks
-fresh_own g c (caller.Cpu looks) is = refl
-
-fresh_open : (g : GeometryData) (x : Caller) → IsFresh g x → open_by x ≡ []
-fresh_open g (caller.Agent a) is = ap (λ (b : AgentData). open_by (caller.Agent b)) is.0
-fresh_open g (caller.Cpu looks) is = refl
-
-none_open : (g : GeometryData) (callers : List Caller) → All (IsFresh g) callers → flat_map open_by callers ≡ []
-none_open g [] fresh_all = refl
-none_open g (x ∷ callers) fresh_all =
-    flat_map-cons open_by x callers
-    ∙ rw (fresh_open g x (All-head (IsFresh g) x callers fresh_all)) (none_open g callers (All-tail (IsFresh g) x callers fresh_all))
-
-fresh_sees : (g : GeometryData) (m : ℕ → Gpi) (words : List ℕ) (x : Caller) → IsFresh g x → Sees m words x
-fresh_sees g m words (caller.Agent a) is = subst (λ (b : AgentData). Sees m words (caller.Agent b)) (sym is.0) tt
-fresh_sees g m words (caller.Cpu looks) is = tt
-
-fresh_due : (g : GeometryData) (y : Size) (region : ℕ) (x : Caller) → IsFresh g x → is_due y region x ≡ false
-fresh_due g y region (caller.Agent a) is = ap (λ (b : AgentData). is_due y region (caller.Agent b)) is.0
-fresh_due g y region (caller.Cpu looks) is = refl
-
-fresh_counted : (g : GeometryData) (c k : ℕ) (x : Caller) (u : Task) (given : Answer) → IsFresh g x → slice_get (known_answers x) k ≡ Some given → IsCounted g c k u given []
-fresh_counted g c k (caller.Agent a) u given is answered =
-    idle_counted g c k k a.tasks u given []
-    (subst (λ (answers : List Answer). slice_get answers k ≡ Some given) (ap (λ (b : AgentData). known_answers (caller.Agent b)) is.0 ∙ append-nil (idle_answers g a.tasks)) answered)
-fresh_counted g c k (caller.Cpu looks) u given is answered = absurd cc
-
--- each caller of a fresh list is fresh
-fresh_at : (g : GeometryData) (callers : List Caller) (c : ℕ) (x : Caller) → All (IsFresh g) callers → slice_get callers c ≡ Some x → IsFresh g x
-fresh_at g callers c x fresh_all at = subst (IsFresh g) (get_or_from_slice_get callers c x x at) (fresh_all c x (slice_get_within callers c x at))
-
-pub opening_invariant : (g : GeometryData) (first : List Gpi) (callers : List Caller) (words : List ℕ) → All (IsFresh g) callers → AreStarting g first words → Invariant g first words callers []
-opening_invariant g first callers words fresh_all starting = record {
-  shape = record {
-    geometry = starting.geometry;
-    size = starting.size;
-    granules = starting.granules;
-    made = All-weaker (IsFresh g) (IsMade g) (fresh_made g) callers fresh_all;
-  };
-  tables = opening_tables g first callers words fresh_all starting;
-  opened = λ granule. sym (ap (pairs_of granule) (none_open g callers fresh_all));
-  locks = λ n below.
-      ap (λ (word : ℕ). bit_at word (n % 64)) (starting.free (n / 64) (omega (arith, below))) ∙ bit_at-zero (n % 64)
-      ∙ sym (none_holds n callers (All-weaker (IsFresh g) (λ x. holds n x ≡ false) (fresh_holds g n) callers fresh_all));
-  seen = λ c x at. fresh_sees g (map_after first []) words x (fresh_at g callers c x fresh_all at);
-  generations = λ y region within.
-      omega (arith, starting.generations y region within, count_none (is_due y region) callers (λ d x at. fresh_due g y region x (fresh_at g callers d x fresh_all at)));
-  undisturbed = undisturbed_empty g.setup;
-  alone = λ c n x at has. absurd (let none = fresh_holds g n x (fresh_at g callers c x fresh_all at) in let both : false ≡ true = sym none ∙ has in cc);
-  counted = λ c k x u given at asked answered. fresh_counted g c k x u given (fresh_at g callers c x fresh_all at) answered;
-  history = record {
-    allowed = tt;
-    own = λ c x at. sym (fresh_own g c x (fresh_at g callers c x fresh_all at));
-    known = All-nil (λ e. caller_in e < length callers);
-  };
-  idle = record { duty = starting.duty; lines = starting.lines };
-}
-
 -- ---- many turns
-
-turn_length_act : (m : MachineData) (c : ℕ) (a : Caller) (o : Option Act) → length (after_act_of m c a o).callers ≡ length m.callers
-turn_length_act m c a None = refl
-turn_length_act m c a (Some t) = length-set m.callers c _
-
-turn_length_of : (m : MachineData) (c : ℕ) (o : Option Caller) → length (after_turn_of m c o).callers ≡ length m.callers
-turn_length_of m c None = refl
-turn_length_of m c (Some a) = turn_length_act m c a (caller_next a)
-
-pub turns_length : (m : MachineData) (turns : List ℕ) → length (after_turns m turns).callers ≡ length m.callers
-turns_length m [] = refl
-turns_length m (c ∷ turns) = turns_length (after_turn m c) turns ∙ turn_length_of m c (slice_get m.callers c)
 
 -- turns, and then more
 pub turns_more : (m n : MachineData) (xs ys zs : List ℕ) → n ≡ after_turns m xs → zs ≡ xs ++ ys → after_turns n ys ≡ after_turns m zs
@@ -206,10 +157,10 @@ turns_more m n xs ys zs so parts = ap (λ (k : MachineData). after_turns k ys) s
 
 pub holds_after : (m n : MachineData) (turns : List ℕ) → n ≡ after_turns m turns → ((first : List Gpi) × (h : List Entry) × InvariantFor first m h) → (first : List Gpi) × (h : List Entry) × InvariantFor first n h
 holds_after m n turns so stands =
-    (stands.0, stands.1 ++ entries_in m turns, subst (λ (k : MachineData). InvariantFor stands.0 k (stands.1 ++ entries_in m turns)) (sym so) (turns_hold stands.0 m stands.1 turns stands.2))
+    (stands.0, stands.1 ++ history_of (trace_of m turns), subst (λ (k : MachineData). InvariantFor stands.0 k (stands.1 ++ history_of (trace_of m turns))) (sym so) (turns_hold stands.0 m stands.1 turns stands.2))
 
 pub length_so : (m n : MachineData) (turns : List ℕ) → n ≡ after_turns m turns → length n.callers ≡ length m.callers
-length_so m n turns so = ap (λ (k : MachineData). length k.callers) so ∙ turns_length m turns
+length_so m n turns so = ap (λ (k : MachineData). length k.callers) so ∙ (turns_shape m turns).1
 
 pub replicate_more : (c k : ℕ) → replicate (k + 1) c ≡ replicate k c ++ c ∷ []
 replicate_more c k = sym (replicate-append-replicate k 1 c)

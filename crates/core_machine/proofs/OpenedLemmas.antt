@@ -1,27 +1,15 @@
 -- What is open: how a change and its third raise alter it.
-use Rattle.std.proofs.Common.{◌≡◌, ◌≢◌, ℕ, zero, suc, ◌<◌, ◌++◌, ◌∷◌, [], List, true, false, eqb, Option, Some, set, refl, sym, ap, ◌∙◌, subst, arith, inl, inr, append-nil}
+use Rattle.std.proofs.Common.{◌≡◌, ◌≢◌, ℕ, zero, suc, ◌++◌, ◌∷◌, [], List, true, false, eqb, Some, set, refl, sym, ap, ◌∙◌, subst, arith, inl, inr, append-nil}
 use Rattle.std.specs.Prelude.{slice_get}
 use Rattle.std.specs.List.{flat_map, list_any}
 use Rattle.std.proofs.lemmas.Bool.{cases_Bool, cases_eq, eq-eqb, eqb-true, ne_eqb}
 use Rattle.std.proofs.lemmas.List.Concat.{flat_map-cons}
 use Rattle.std.proofs.lemmas.List.Elements.{filter-append}
-use Rattle.gpi_values.specs.declared.gpi.Gpi.{Gpi}
-use Rattle.gpt_descriptors.specs.Places.{GeometryData}
-use Rattle.bit_locks.specs.Locks.{lock_number}
-use Rattle.history.specs.declared.call.Task.{Task}
-use Rattle.history.specs.States.{State, is_open, without}
-use Rattle.delegate_ops.specs.declared.stage.Stage.{Stage}
-use Rattle.delegate_ops.specs.declared.stage.Stage.TheVariants as stage
-use Rattle.delegate_ops.specs.Deciding.{address_of}
-use Rattle.delegate_ops.specs.InnerAgents.{AgentData, task_of}
-use Rattle.core_machine.specs.declared.caller.Caller.{Caller}
-use Rattle.core_machine.specs.declared.caller.Caller.TheVariants as caller
-use Rattle.core_machine.specs.InnerLocks.{is_inside, LocksAreHeld}
-use Rattle.core_machine.specs.InnerOpened.{open_at, open_by, pairs_of, OpenAreHeld}
-use Rattle.core_machine.specs.InnerInvariant.{IsMade}
+use Rattle.core_machine.proofs.Names.{Gpi, Entry, granule_in, State, after_entry, Caller, pairs_of, open_by}
+use Rattle.core_machine.proofs.Names.entry
+use Rattle.history.specs.States.{is_open, without}
+use Rattle.core_machine.specs.InnerInvariant.{OpenAreHeld}
 use Rattle.core_machine.proofs.ListLemmas.{get_set, get_set_here}
-use Rattle.core_machine.proofs.OthersLemmas.{Holder, is_holder, other_number, same_granule}
-use Rattle.delegate_ops.specs.Script.{granule_of_task}
 
 -- ---- the pairs of one granule
 
@@ -60,44 +48,10 @@ pairs_there granule callers c a x at others =
     pairs_here granule (set callers c x) c x (get_set_here callers c a x at)
     (λ d y apart there. elim (get_set callers c d x y there) [ inl here ↦ absurd (apart here.0) | inr away ↦ others d y apart away.1 ])
 
--- ---- the others
-
-none_at : (g : GeometryData) (s : Stage) (o : Option Task) (granule : ℕ) → ((u : Task) → o ≡ Some u → is_inside s ≡ true → granule_of_task g u ≢ granule) → pairs_of granule (open_at g s o) ≡ []
-none_at g (stage.Raising c z k) (Some u) granule apart = rw (ne_eqb _ _ (apart u refl refl)) refl
-none_at g s o granule apart = refl
-
--- the others hold nothing of a holder's granule open
-pub others_closed : (g : GeometryData) (words : List ℕ) (callers : List Caller) (c d : ℕ) (a : AgentData) (t : Task) (y : Caller) → LocksAreHeld words callers → lock_number g.setup (address_of t) < 128
-    → Holder g callers c a t → d ≢ c → slice_get callers d ≡ Some y → IsMade g y → pairs_of (granule_of_task g t) (open_by y) ≡ []
-others_closed g words callers c d a t (caller.Cpu looks) held below mine apart there made = refl
-others_closed g words callers c d a t (caller.Agent b) held below mine apart there made =
-    subst (λ (k : GeometryData). pairs_of (granule_of_task g t) (open_at k b.stage (task_of b)) ≡ []) (sym made.0)
-    (none_at g b.stage (task_of b) (granule_of_task g t)
-    (λ u under_way inside same.
-    let theirs = is_holder g callers d b u there made under_way inside in
-    other_number g words callers c d a b t u held below mine theirs apart (same_granule g t u mine.acts theirs.acts same)))
-
 -- ---- what a step does
 
-pub opened_stays : (opened after : List (ℕ × Gpi)) (callers : List Caller) (c : ℕ) (a x : Caller) → slice_get callers c ≡ Some a → OpenAreHeld opened callers → after ≡ opened → open_by x ≡ open_by a
-    → OpenAreHeld after (set callers c x)
-opened_stays opened after callers c a x at held same own granule =
-    ap (pairs_of granule) same ∙ held granule ∙ sym (pairs_set granule callers c a x at (ap (pairs_of granule) own))
-
-pub opened_change : (opened after : List (ℕ × Gpi)) (callers : List Caller) (c granule : ℕ) (former : Gpi) (a x : Caller) → slice_get callers c ≡ Some a → OpenAreHeld opened callers → after ≡ opened ++ (granule, former) ∷ []
-    → open_by a ≡ [] → open_by x ≡ (granule, former) ∷ [] → ((d : ℕ) (y : Caller) → d ≢ c → slice_get callers d ≡ Some y → pairs_of granule (open_by y) ≡ [])
-    → OpenAreHeld after (set callers c x)
-opened_change opened after callers c granule former a x at held grown before behind others other =
-    ap (pairs_of other) grown ∙ filter-append (λ pair. eqb pair.0 other) opened ((granule, former) ∷ [])
-    ∙ elim (cases_eq granule other) [
-      | inl same ↦
-          subst (λ (n : ℕ). pairs_of n opened ++ pairs_of n ((granule, former) ∷ []) ≡ pairs_of n (flat_map open_by (set callers c x))) same
-          (rw (held granule, pairs_here granule callers c a at others, before) (sym (pairs_there granule callers c a x at others ∙ ap (pairs_of granule) behind)))
-      | inr apart ↦
-          rw (ne_eqb granule other apart)
-          (append-nil (pairs_of other opened) ∙ held other
-          ∙ sym (pairs_set other callers c a x at (ap (pairs_of other) behind ∙ rw (ne_eqb granule other apart) (sym (ap (pairs_of other) before)))))
-    ]
+pub opened_stays : (opened : List (ℕ × Gpi)) (callers : List Caller) (c : ℕ) (a x : Caller) → slice_get callers c ≡ Some a → OpenAreHeld opened callers → open_by x ≡ open_by a → OpenAreHeld opened (set callers c x)
+opened_stays opened callers c a x at held own granule = held granule ∙ sym (pairs_set granule callers c a x at (ap (pairs_of granule) own))
 
 -- taking the pairs of a granule away
 without_own : (granule : ℕ) (pairs : List (ℕ × Gpi)) → pairs_of granule (without granule pairs) ≡ []
@@ -113,18 +67,35 @@ without_other granule other (p ∷ pairs) apart =
       | inr away ↦ rw away (elim (cases_Bool (eqb p.0 other)) [ inl it ↦ rw it (ap (λ (rest : List (ℕ × Gpi)). p ∷ rest) (without_other granule other pairs apart)) | inr not_it ↦ rw not_it (without_other granule other pairs apart) ])
     ]
 
-pub opened_settle : (opened after : List (ℕ × Gpi)) (callers : List Caller) (c granule : ℕ) (former : Gpi) (a x : Caller) → slice_get callers c ≡ Some a → OpenAreHeld opened callers → after ≡ without granule opened
-    → open_by a ≡ (granule, former) ∷ [] → open_by x ≡ [] → ((d : ℕ) (y : Caller) → d ≢ c → slice_get callers d ≡ Some y → pairs_of granule (open_by y) ≡ [])
-    → OpenAreHeld after (set callers c x)
-opened_settle opened after callers c granule former a x at held cut before behind others other =
-    ap (pairs_of other) cut
-    ∙ elim (cases_eq granule other) [
+-- what an entry does to the pairs of its granule, and that it leaves those of others
+abbrev pub opened_after : Entry → List (ℕ × Gpi) → List (ℕ × Gpi)
+opened_after e pairs = (after_entry (record { map = []; opened = pairs }) e).opened
+
+pairs_own : (e : Entry) (s : State) (pairs : List (ℕ × Gpi)) → pairs_of (granule_in e) s.opened ≡ pairs_of (granule_in e) pairs → pairs_of (granule_in e) (after_entry s e).opened ≡ pairs_of (granule_in e) (opened_after e pairs)
+pairs_own (entry.Changed c k granule from to) s pairs same =
+    filter-append (λ pair. eqb pair.0 granule) s.opened ((granule, from) ∷ []) ∙ ap (λ (xs : List (ℕ × Gpi)). xs ++ pairs_of granule ((granule, from) ∷ [])) same ∙ sym (filter-append (λ pair. eqb pair.0 granule) pairs ((granule, from) ∷ []))
+pairs_own (entry.Settled c k granule) s pairs same = without_own granule s.opened ∙ sym (without_own granule pairs)
+pairs_own (entry.Refused c k granule found) s pairs same = same
+pairs_own (entry.Looked c k granule space gpi allowed) s pairs same = same
+
+pairs_other : (e : Entry) (s : State) (other : ℕ) → granule_in e ≢ other → pairs_of other (after_entry s e).opened ≡ pairs_of other s.opened
+pairs_other (entry.Changed c k granule from to) s other apart =
+    filter-append (λ pair. eqb pair.0 other) s.opened ((granule, from) ∷ []) ∙ rw (ne_eqb granule other apart) (append-nil (pairs_of other s.opened))
+pairs_other (entry.Settled c k granule) s other apart = without_other granule other s.opened apart
+pairs_other (entry.Refused c k granule found) s other apart = refl
+pairs_other (entry.Looked c k granule space gpi allowed) s other apart = refl
+
+-- the pairs of a caller change as those of the state do, where the others have none of the granule
+pub opened_changes : (s : State) (callers : List Caller) (c : ℕ) (a x : Caller) (e : Entry) → slice_get callers c ≡ Some a → OpenAreHeld s.opened callers → open_by x ≡ opened_after e (open_by a)
+    → ((d : ℕ) (y : Caller) → d ≢ c → slice_get callers d ≡ Some y → pairs_of (granule_in e) (open_by y) ≡ []) → OpenAreHeld (after_entry s e).opened (set callers c x)
+opened_changes s callers c a x e at held own others other =
+    elim (cases_eq (granule_in e) other) [
       | inl same ↦
-          subst (λ (n : ℕ). pairs_of n (without granule opened) ≡ pairs_of n (flat_map open_by (set callers c x))) same
-          (without_own granule opened ∙ sym (pairs_there granule callers c a x at others ∙ ap (pairs_of granule) behind))
+          subst (λ (n : ℕ). pairs_of n (after_entry s e).opened ≡ pairs_of n (flat_map open_by (set callers c x))) same
+          (pairs_own e s (open_by a) (held (granule_in e) ∙ pairs_here (granule_in e) callers c a at others) ∙ ap (pairs_of (granule_in e)) (sym own) ∙ sym (pairs_there (granule_in e) callers c a x at others))
       | inr apart ↦
-          without_other granule other opened apart ∙ held other
-          ∙ sym (pairs_set other callers c a x at (ap (pairs_of other) behind ∙ sym (ap (pairs_of other) before ∙ rw (ne_eqb granule other apart) refl)))
+          pairs_other e s other apart ∙ held other
+          ∙ sym (pairs_set other callers c a x at (ap (pairs_of other) own ∙ pairs_other e (record { map = []; opened = open_by a }) other apart))
     ]
 
 -- ---- whether a granule is open

@@ -1,23 +1,24 @@
 -- The words before the first act: built tables among them mean the region map, and no caller is at work on them.
-use Rattle.std.proofs.Common.{◌≡◌, ℕ, [], mul_comm, ◌*◌, ◌/◌, ◌<◌, List, map, length, false, Option, Some, None, refl, sym, ap, ◌∙◌, subst, arith}
+use Rattle.std.proofs.Common.{◌≡◌, ℕ, suc, [], ◌∷◌, ◌*◌, ◌/◌, ◌%◌, ◌<◌, List, map, length, true, false, Option, Some, None, append-nil, refl, sym, ap, ◌∙◌, subst, arith}
 use Rattle.std.specs.Prelude.{slice_get, slice_index}
-use Rattle.std.specs.List.{All, range_with_len}
-use Rattle.std.proofs.Math.Nat.{div-div-eq-div-mul, div-lt_iff_lt-mul}
+use Rattle.std.specs.Int.{bit_at}
+use Rattle.std.specs.List.{All, flat_map, range_with_len}
+use Rattle.std.proofs.lemmas.List.Concat.{flat_map-cons}
+use Rattle.std.proofs.lemmas.List.Elements.{All-nil, All-weaker}
+use Rattle.std.proofs.lemmas.Nat.Bits.{bit_at-zero}
+use Rattle.std.proofs.Math.Nat.{div-lt_iff_lt-mul}
 use Rattle.std.proofs.lemmas.List.FromFn.{length-map-range_with_len, get_or-map-range_with_len}
 use Rattle.std.proofs.lemmas.Nat.{div_below}
-use Rattle.std.proofs.lemmas.Option.{get_or_from_slice_get, slice_get-map, slice_get_within}
-use Rattle.gpi_values.specs.declared.gpi.Gpi.{Gpi}
-use Rattle.gpi_values.specs.declared.gpi.Gpi.TheVariants as gpi
-use Rattle.gpt_descriptors.specs.declared.size.Size.TheVariants as size
-use Rattle.gpt_descriptors.specs.Sizes.{SetupData, granule_bytes, word_bytes, words_of, table_words, space_words, space_granules}
+use Rattle.std.proofs.lemmas.Option.{get_or_from_slice_get, slice_get_within}
+use Rattle.core_machine.proofs.Names.{Gpi, Size, SetupData, granule_bytes, words_of, table_words, space_words, space_granules, canonical_word, l1_index, GeometryData, IsGeometry, Lock, Generation, Level1, place_of, l0_words, l1_words, Holder, Whole, Task, Answer, caller_in, answered_entries, AgentData, IsAgent, idle_answers, IsMade, Sees, holds, is_due, known_answers, open_by, holder_by, HoldsIn, pairs_of, Caller, map_at, IsCounted}
+use Rattle.core_machine.proofs.Names.gpi
+use Rattle.core_machine.proofs.Names.size
+use Rattle.core_machine.proofs.Names.caller
 use Rattle.gpt_descriptors.specs.Entries.{l0_entry}
-use Rattle.gpt_descriptors.specs.Canonical.{canonical_word}
-use Rattle.gpt_descriptors.specs.Level0.{l1_index}
-use Rattle.gpt_descriptors.specs.Places.{GeometryData, IsGeometry, Lock, Generation, Duty, Level1, Line, place_of, l0_words, l1_words, block_gpi_in}
-use Rattle.gpt_descriptors.proofs.SizeLemmas.{word_is, table_is}
+use Rattle.gpt_descriptors.specs.Places.{Duty, Line, block_gpi_in}
+use Rattle.gpt_descriptors.proofs.SizeLemmas.{table_is}
 use Rattle.gpt_descriptors.proofs.CanonicalLemmas.{words_some}
 use Rattle.table_meaning.specs.Meaning.{BlocksMean}
-use Rattle.table_meaning.specs.Equation.{Holder, Whole}
 use Rattle.table_meaning.proofs.ChangeLemmas.{canonical_local}
 use Rattle.table_meaning.proofs.EquationLemmas.{all_whole}
 use Rattle.region_plan.specs.declared.region.Region.{Region}
@@ -27,16 +28,17 @@ use Rattle.table_build.specs.Built.{region_l1, is_bad_base}
 use Rattle.table_build.proofs.MeaningLemmas.{built_word, built_block}
 use Rattle.shared_words.specs.Start.{start_words}
 use Rattle.shared_words.proofs.StartLemmas.{start_count, start_named}
-use Rattle.delegate_ops.specs.InnerAgents.{AgentData}
-use Rattle.delegate_ops.proofs.ScriptLemmas.{some_mapped}
-use Rattle.core_machine.specs.declared.caller.Caller.{Caller}
-use Rattle.core_machine.specs.declared.caller.Caller.TheVariants as caller
-use Rattle.core_machine.specs.Scenarios.{map_at}
+use Rattle.delegate_ops.proofs.ScriptLemmas.{fresh_walked}
+use Rattle.core_machine.proofs.AloneLemmas.{undisturbed_empty}
+use Rattle.core_machine.proofs.ListLemmas.{count_none}
+use Rattle.core_machine.proofs.LockActs.{idle_counted}
+use Rattle.core_machine.proofs.ToldLemmas.{idle_entries}
+use Rattle.core_machine.specs.InnerCallers.{own_of, IsFresh}
+use Rattle.core_machine.specs.InnerInvariant.{table_word, AreTables}
 use Rattle.core_machine.specs.Facts.{map_after}
-use Rattle.core_machine.specs.InnerOpening.{IsFresh, AreStarting}
-use Rattle.core_machine.specs.InnerTables.{table_word, holder_by, AreTables}
-use Rattle.core_machine.proofs.TableLemmas.{granule_back}
-use Rattle.core_machine.proofs.ChangeLemmas.{index_inside, index_below}
+use Rattle.core_machine.specs.InnerOpening.{AreStarting}
+use Rattle.core_machine.proofs.CallerLemmas.{holder_there}
+use Rattle.core_machine.proofs.AddressLemmas.{index_inside, index_below}
 
 -- ---- lists
 
@@ -48,11 +50,6 @@ first_at : (m : ℕ → Gpi) (n k : ℕ) → k < n → map_at (map m (range_with
 first_at m n k within = get_or-map-range_with_len m 0 n k k gpi.Any within (omega arith)
 
 -- ---- numbers of granules
-
-pub word_back : (s : SetupData) (granule : ℕ) → granule * granule_bytes s / word_bytes s ≡ granule / 16
-word_back s granule =
-    ap (λ (n : ℕ). granule * granule_bytes s / n) (word_is s ∙ mul_comm 16 (granule_bytes s))
-    ∙ sym (div-div-eq-div-mul (granule * granule_bytes s) (granule_bytes s) 16) ∙ ap (λ (n : ℕ). n / 16) (granule_back s granule)
 
 -- the 512 MB around a word of the space are in the space
 in_space : (s : SetupData) (w k : ℕ) → w < space_words s → k / 16 / words_of s size.FiveTwelve ≡ w / words_of s size.FiveTwelve → k < space_granules s
@@ -117,25 +114,74 @@ built_starts g regions geometry level0 accepted good size = record {
 
 -- ---- the callers before the first act
 
-fresh_whole : (g : GeometryData) (x : Caller) → IsFresh g x → (holder_by x).step ≡ Whole
-fresh_whole g (caller.Agent a) is = ap (λ (b : AgentData). (holder_by (caller.Agent b)).step) is.0
-fresh_whole g (caller.Cpu looks) is = refl
+pub record IsAtRest (g : GeometryData) (x : Caller) : Type 0 where
+  pub made : IsMade g x
+  pub free : (n : ℕ) → holds n x ≡ false
+  pub closed : open_by x ≡ []
+  pub raised : (y : Size) (region : ℕ) → is_due y region x ≡ false
+  pub whole : (holder_by x).step ≡ Whole
+  pub sees : (m : ℕ → Gpi) (words : List ℕ) → Sees m words x
+  pub own : (c : ℕ) → own_of c x ≡ []
+  pub counted : (c k : ℕ) (u : Task) (given : Answer) → slice_get (known_answers x) k ≡ Some given → IsCounted g c k u given []
 
--- the caller of a holder
-pub holder_at : (callers : List Caller) (d : ℕ) (h : Holder) → slice_get (map holder_by callers) d ≡ Some h → (x : Caller) × (slice_get callers d ≡ Some x) × (holder_by x ≡ h)
-holder_at callers d h at = some_mapped holder_by (slice_get callers d) h (sym (slice_get-map holder_by callers d) ∙ at)
+fresh_rests : (g : GeometryData) (x : Caller) → IsFresh g x → IsAtRest g x
+fresh_rests g (caller.Agent a) is =
+    subst (λ (b : AgentData). IsAtRest g (caller.Agent b)) (sym is.0)
+    (record {
+      made = (refl, subst IsAgent is.0 is.1, 0, [], fresh_walked g a.tasks 0);
+      free = λ n. refl;
+      closed = refl;
+      raised = λ y region. refl;
+      whole = refl;
+      sees = λ m words t under_way. record { known = tt; gives = tt; generations = tt };
+      own = λ c. append-nil (answered_entries (granule_bytes g.setup) c 0 a.tasks (idle_answers g a.tasks)) ∙ idle_entries g (granule_bytes g.setup) c 0 a.tasks;
+      counted = λ c k u given answered. idle_counted g c k k a.tasks u given [] (subst (λ (answers : List Answer). slice_get answers k ≡ Some given) (append-nil (idle_answers g a.tasks)) answered);
+    })
+fresh_rests g (caller.Cpu looks) is =
+    record { made = tt; free = λ n. refl; closed = refl; raised = λ y region. refl; whole = refl; sees = λ m words. tt; own = λ c. refl; counted = λ c k u given answered. absurd cc }
+
+-- each caller of a fresh list
+pub rests_at : (g : GeometryData) (callers : List Caller) (c : ℕ) (x : Caller) → All (IsFresh g) callers → slice_get callers c ≡ Some x → IsAtRest g x
+rests_at g callers c x fresh_all at = fresh_rests g x (subst (IsFresh g) (get_or_from_slice_get callers c x x at) (fresh_all c x (slice_get_within callers c x at)))
+
+none_open : (callers : List Caller) → ((c : ℕ) (x : Caller) → slice_get callers c ≡ Some x → open_by x ≡ []) → flat_map open_by callers ≡ []
+none_open [] none = refl
+none_open (x ∷ callers) none = flat_map-cons open_by x callers ∙ rw (none 0 x refl) (none_open callers (λ c y at. none (suc c) y at))
 
 fresh_holder : (g : GeometryData) (callers : List Caller) (d : ℕ) (h : Holder) → All (IsFresh g) callers → slice_get (map holder_by callers) d ≡ Some h → h.step ≡ Whole
 fresh_holder g callers d h fresh_all at =
-    let own = holder_at callers d h at in
-    let is : IsFresh g own.0 = subst (IsFresh g) (get_or_from_slice_get callers d own.0 own.0 own.1) (fresh_all d own.0 (slice_get_within callers d own.0 own.1)) in
-    ap (λ (x : Holder). x.step) (sym own.2) ∙ fresh_whole g own.0 is
+    let own = holder_there callers d h at in
+    ap (λ (x : Holder). x.step) (sym own.2) ∙ (rests_at g callers d own.0 fresh_all own.1).whole
 
 -- with no caller at work each word is the canonical one
-pub opening_tables : (g : GeometryData) (first : List Gpi) (callers : List Caller) (words : List ℕ) → All (IsFresh g) callers → AreStarting g first words → AreTables g words callers (map_after first [])
+opening_tables : (g : GeometryData) (first : List Gpi) (callers : List Caller) (words : List ℕ) → All (IsFresh g) callers → AreStarting g first words → AreTables g words callers (map_after first [])
 opening_tables g first callers words fresh_all starting = record {
   level1 = λ w i at.
       starting.canonical w i at
       ∙ ap (λ (o : Option ℕ). canonical_word g.setup (map_at first) o w) (sym (all_whole g.setup (map holder_by callers) w (λ d h there. fresh_holder g callers d h fresh_all there)));
   blocks = starting.blocks;
 }
+
+pub opening_invariant : (g : GeometryData) (first : List Gpi) (callers : List Caller) (words : List ℕ) → All (IsFresh g) callers → AreStarting g first words → HoldsIn g (record { first = first; words = words; callers = callers; history = [] })
+opening_invariant g first callers words fresh_all starting =
+    let rests = λ (c : ℕ) (x : Caller) (at : slice_get callers c ≡ Some x). rests_at g callers c x fresh_all at in
+    record {
+      shape = record {
+        geometry = starting.geometry;
+        size = starting.size;
+        granules = starting.granules;
+        made = All-weaker (IsFresh g) (IsMade g) (λ x is. (fresh_rests g x is).made) callers fresh_all;
+      };
+      tables = opening_tables g first callers words fresh_all starting;
+      opened = λ granule. sym (ap (pairs_of granule) (none_open callers (λ c x at. (rests c x at).closed)));
+      locks = λ n below.
+          ap (λ (word : ℕ). bit_at word (n % 64)) (starting.free (n / 64) (omega (arith, below))) ∙ bit_at-zero (n % 64)
+          ∙ sym (count_none (holds n) callers (λ c x at. (rests c x at).free n));
+      seen = λ c x at. (rests c x at).sees (map_after first []) words;
+      generations = λ y region within. omega (arith, starting.generations y region within, count_none (is_due y region) callers (λ c x at. (rests c x at).raised y region));
+      undisturbed = undisturbed_empty g.setup;
+      alone = λ c n x at has. absurd (let both : true ≡ false = sym has ∙ (rests c x at).free n in cc);
+      counted = λ c k x u given at asked answered. (rests c x at).counted c k u given answered;
+      history = record { allowed = tt; own = λ c x at. sym ((rests c x at).own c); known = All-nil (λ e. caller_in e < length callers) };
+      idle = record { duty = starting.duty; lines = starting.lines };
+    }

@@ -2,16 +2,12 @@
 use Rattle.std.proofs.Common.{◌≡◌, ℕ, ◌+◌, ◌*◌, ◌<◌, List, length, drop, map, Option, ap, ◌∙◌, arith, length-drop}
 use Rattle.std.specs.Prelude.{slice_index}
 use Rattle.std.proofs.lemmas.List.{get_or-take, get_or-drop, length-take}
-use Rattle.gpi_values.specs.declared.gpi.Gpi.{Gpi}
-use Rattle.gpt_descriptors.specs.Sizes.{table_words}
-use Rattle.gpt_descriptors.specs.Places.{GeometryData, IsGeometry, Level1, place_of, l0_words, l1_words, word_count}
+use Rattle.core_machine.proofs.Names.{Gpi, table_words, GeometryData, IsGeometry, Level1, place_of, l0_words, l1_words, word_count, apart_by, AreWords, Caller, holder_by}
 use Rattle.table_meaning.specs.Meaning.{TablesMean, AreCanonicalApart}
-use Rattle.table_meaning.specs.Equation.{apart_by, AreWords}
 use Rattle.table_meaning.proofs.MeaningLemmas.{canonical_mean}
-use Rattle.core_machine.specs.declared.caller.Caller.{Caller}
-use Rattle.core_machine.specs.InnerTables.{table_word, holder_by, AreTables}
 use Rattle.core_machine.specs.Facts.{table_part}
-use Rattle.core_machine.proofs.ChangeLemmas.{index_below}
+use Rattle.core_machine.specs.InnerInvariant.{table_word, AreTables}
+use Rattle.core_machine.proofs.AddressLemmas.{index_below}
 
 pub part_word : (g : GeometryData) (words : List ℕ) (i : ℕ) → i < l1_words g → slice_index (table_part g words) i ≡ table_word g words i
 part_word g words i within = get_or-take (l1_words g) (drop (place_of g (Level1 0)) words) i 0 within ∙ get_or-drop (place_of g (Level1 0)) words i 0 ∙ ap (slice_index words) (let place : place_of g (Level1 0) + i ≡ place_of g (Level1 i) = omega arith in place)

@@ -1,36 +1,28 @@
 -- A scenario's machine before the first act, and what its turns leave.
-use Rattle.std.proofs.Common.{◌≡◌, ℕ, ◌++◌, ◌∷◌, [], List, ◌-◌, map, replicate, length, take, false, Option, Some, None, refl, sym, ap, ◌∙◌, subst}
-use Rattle.std.specs.Prelude.{slice_get}
+use Rattle.std.proofs.Common.{◌≡◌, ℕ, ◌++◌, ◌∷◌, [], List, ◌-◌, map, replicate, length, take, false, refl, sym, ap, ◌∙◌, subst}
 use Rattle.std.specs.List.{All, AllByRecursion, flat_map}
 use Rattle.std.proofs.Math.Seq.{take-append_seam}
 use Rattle.std.proofs.lemmas.List.{length-map}
 use Rattle.std.proofs.lemmas.List.FromFn.{length-map-range_with_len}
 use Rattle.std.proofs.lemmas.List.Elements.{All-nil, All-cons, All-from_recursion}
-use Rattle.gpt_descriptors.specs.Places.{GeometryData, IsGeometry, l0_words}
+use Rattle.core_machine.proofs.Names.{GeometryData, IsGeometry, l0_words, Scenario, Script, Task, IsAgent, is_look, task_of, fresh, Caller, MachineData, InvariantFor, after_turns, trace_of, history_of, caller_of, opening_of, played, first_map, geometry_of, task_of_ask, turns_in}
+use Rattle.core_machine.proofs.Names.script
 use Rattle.gpt_descriptors.specs.Entries.{l0_word}
 use Rattle.region_plan.specs.Regions.{region_l0, region_entry}
 use Rattle.table_build.specs.TableData.{TableData, AreTables}
 use Rattle.table_build.specs.Built.{tables_of, region_l1}
 use Rattle.shared_words.specs.Start.{start_words}
-use Rattle.scenario_text.specs.declared.scenario.Scenario.{Scenario}
-use Rattle.scenario_text.specs.declared.scenario.Script.{Script}
-use Rattle.scenario_text.specs.declared.scenario.Script.TheVariants as script
 use Rattle.scenario_text.specs.declared.scenario.Slot.{Slot}
 use Rattle.scenario_text.specs.declared.scenario.Slot.TheVariants as slot
 use Rattle.scenario_text.specs.Spelling.{IsSlot, WellFormed}
-use Rattle.shared_words.specs.declared.act.Act.{Act}
-use Rattle.history.specs.declared.call.Task.{Task}
-use Rattle.delegate_ops.specs.InnerAgents.{IsAgent, is_look, task_of, fresh}
 use Rattle.delegate_ops.proofs.AgentLemmas.{idle_few, idle_then_acts, locking_fits}
-use Rattle.core_machine.specs.declared.caller.Caller.{Caller}
-use Rattle.core_machine.specs.InnerCallers.{caller_next}
-use Rattle.core_machine.specs.InnerOpening.{IsFresh, AreStarting}
-use Rattle.core_machine.specs.InnerMachine.{MachineData, InvariantFor, after_act_of, after_turn_of, after_turn, after_turns, entries_in}
-use Rattle.core_machine.specs.InnerPlay.{caller_of, opening_of, NamesCaller, played}
+use Rattle.core_machine.specs.InnerCallers.{IsFresh}
+use Rattle.core_machine.specs.InnerOpening.{AreStarting}
+use Rattle.core_machine.specs.InnerPlay.{NamesCaller}
 use Rattle.core_machine.proofs.CallLemmas.{asks_no_looks}
-use Rattle.core_machine.proofs.MachineLemmas.{opening_invariant, turns_hold}
-use Rattle.core_machine.proofs.OpeningLemmas.{built_starts}
-use Rattle.core_machine.specs.Scenarios.{IsAccepted, first_map, geometry_of, slot_turns, task_of_ask, turns_in}
+use Rattle.core_machine.proofs.MachineLemmas.{turns_hold}
+use Rattle.core_machine.proofs.OpeningLemmas.{opening_invariant, built_starts}
+use Rattle.core_machine.specs.Scenarios.{IsAccepted, slot_turns}
 
 -- ---- callers
 
@@ -73,25 +65,10 @@ slots_name n (slot.Round turns times ∷ schedule) slots = (tt, slots_name n sch
 pub schedule_names : (s : Scenario) → WellFormed s → All (NamesCaller (length s.scripts)) s.schedule
 schedule_names s formed = All-from_recursion (NamesCaller (length s.scripts)) s.schedule (slots_name (length s.scripts) s.schedule formed.slots)
 
-act_geometry : (m : MachineData) (c : ℕ) (a : Caller) (o : Option Act) → (after_act_of m c a o).geometry ≡ m.geometry
-act_geometry m c a None = refl
-act_geometry m c a (Some t) = refl
-
-turn_geometry : (m : MachineData) (c : ℕ) (o : Option Caller) → (after_turn_of m c o).geometry ≡ m.geometry
-turn_geometry m c None = refl
-turn_geometry m c (Some a) = act_geometry m c a (caller_next a)
-
-pub turns_geometry : (m : MachineData) (turns : List ℕ) → (after_turns m turns).geometry ≡ m.geometry
-turns_geometry m [] = refl
-turns_geometry m (c ∷ turns) = turns_geometry (after_turn m c) turns ∙ turn_geometry m c (slice_get m.callers c)
-
 -- the opening stands for the empty history, and what is played for the history of its trace
 pub opening_so : (s : Scenario) → IsAccepted s → IsGeometry (geometry_of s) → AreTables (tables_of s.setup s.regions) → InvariantFor (first_map s) (opening_of s) []
 opening_so s accepted geometry tables =
     opening_invariant (geometry_of s) (first_map s) _ _ (callers_fresh (geometry_of s) s.scripts geometry) (opening_starts s accepted geometry tables)
-
-pub played_so : (s : Scenario) → IsAccepted s → IsGeometry (geometry_of s) → AreTables (tables_of s.setup s.regions) → InvariantFor (first_map s) (played s) (entries_in (opening_of s) (turns_in s))
-played_so s accepted geometry tables = turns_hold (first_map s) (opening_of s) [] (turns_in s) (opening_so s accepted geometry tables)
 
 -- ---- the code's machine
 
@@ -121,5 +98,5 @@ played_is s m n so turned =
     turned ∙ ap (λ (k : MachineData). after_turns k (flat_map (slot_turns (length m.callers)) s.schedule)) so
     ∙ ap (λ (count : ℕ). after_turns (opening_of s) (flat_map (slot_turns count) s.schedule)) (callers_of_opening s m so)
 
-pub played_stands : (s : Scenario) (m : MachineData) → m ≡ opening_of s → InvariantFor (first_map s) m [] → InvariantFor (first_map s) (played s) (entries_in (opening_of s) (turns_in s))
+pub played_stands : (s : Scenario) (m : MachineData) → m ≡ opening_of s → InvariantFor (first_map s) m [] → InvariantFor (first_map s) (played s) (history_of (trace_of (opening_of s) (turns_in s)))
 played_stands s m so stands = turns_hold (first_map s) (opening_of s) [] (turns_in s) (subst (λ (k : MachineData). InvariantFor (first_map s) k []) so stands)

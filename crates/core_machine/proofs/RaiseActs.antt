@@ -1,67 +1,41 @@
 -- The raises of the generations after a change.
 use Rattle.std.proofs.Common.{◌≡◌, ◌≢◌, ℕ, ◌+◌, ◌*◌, ◌/◌, ◌<◌, ◌⊎◌, ◌++◌, ◌∷◌, [], List, true, false, not, ◌&&◌, Some, length, set, refl, sym, ◌∙◌, subst, arith, inl, inr, append-nil, None, Option}
+use Rattle.std.specs.Prelude.{IfSome}
 use Rattle.std.proofs.lemmas.Bool.{cases_eq, eq-eqb, ne_eqb}
 use Rattle.std.proofs.lemmas.List.{get_or-set_same}
-use Rattle.gpt_descriptors.specs.declared.size.Size.{Size}
-use Rattle.gpt_descriptors.specs.declared.size.Size.TheVariants as size
-use Rattle.gpt_descriptors.specs.declared.size.Generations.{Generations}
-use Rattle.gpt_descriptors.specs.Sizes.{granule_bytes, size_bytes}
-use Rattle.gpi_values.specs.declared.gpi.Gpi.{Gpi}
-use Rattle.gpt_descriptors.specs.Sizes.{words_of}
+use Rattle.core_machine.proofs.Names.{Size, Generations, granule_bytes, size_bytes, Gpi, words_of, GeometryData, Generation, Level1, place_of, l1_index_of, gen_place_of, blocks_in_region, Act, Fusing, Testing, Storing, Ended, Step, Whole, apart_by, AreWords, Facts, Keeps, step_of, Task, Answer, Entry, region_of, Change, Kept, Stage, address_of, generation_in, AgentData, IsStage, task_of, goes_to, HoldsIn, Scene, state_in, scene_after, map_in, IsCounted, generation_word, entries_at, made_at, granule_of_task, is_inside, open_at, comes_before, SeesGeneration, SeesAt, is_due_at, is_around, coming_at, known_at, is_due, IsMade}
+use Rattle.core_machine.proofs.Names.size
+use Rattle.core_machine.proofs.Names.fuse
+use Rattle.core_machine.proofs.Names.task
+use Rattle.core_machine.proofs.Names.answer
+use Rattle.core_machine.proofs.Names.entry
+use Rattle.core_machine.proofs.Names.stage
+use Rattle.core_machine.proofs.Names.caller
 use Rattle.gpt_descriptors.specs.Fields.{equal_gpi}
 use Rattle.gpt_descriptors.specs.Canonical.{largest_block}
-use Rattle.gpt_descriptors.specs.Places.{GeometryData, Generation, Level1, place_of, l1_index_of, gen_place_of, blocks_in_region}
 use Rattle.gpt_descriptors.proofs.PlaceLemmas.{generation_named}
-use Rattle.shared_words.specs.declared.act.Act.{Act}
-use Rattle.table_meaning.specs.declared.fusing.Fusing.{Fusing}
-use Rattle.table_meaning.specs.declared.fusing.Fusing.TheVariants.{Testing, Storing, Ended}
 use Rattle.table_meaning.specs.Fusing.{begun}
-use Rattle.table_meaning.specs.Equation.{Step, Whole, apart_by, AreWords}
-use Rattle.table_meaning.specs.Facts.{Facts, Keeps, Merges, step_of, merging_step}
+use Rattle.table_meaning.specs.Facts.{Merges, merging_step}
 use Rattle.table_meaning.proofs.FactLemmas.{merges}
 use Rattle.table_meaning.proofs.TestLemmas.{finds_largest}
 use Rattle.gpt_descriptors.proofs.PackedLemmas.{equal_found, equal_none}
 use Rattle.table_meaning.proofs.StepLemmas.{load_words, no_merge, begun_unstored}
 use Rattle.fuse.specs.Merging.{FuseData}
-use Rattle.fuse.specs.Merging as fuse
 use Rattle.invalidate.specs.Generations.{gen_raise_of}
-use Rattle.history.specs.declared.call.Task.{Task}
-use Rattle.history.specs.declared.call.Task.TheVariants as task
-use Rattle.history.specs.declared.call.Answer.{Answer}
-use Rattle.history.specs.declared.call.Answer.TheVariants as answer
-use Rattle.history.specs.declared.entry.Entry.TheVariants as entry
-use Rattle.history.specs.Counts.{region_of}
-use Rattle.delegate_ops.specs.declared.stage.Change.{Change}
 use Rattle.delegate_ops.specs.declared.stage.Change.TheVariants as change
-use Rattle.delegate_ops.specs.declared.stage.Kept.{Kept}
-use Rattle.delegate_ops.specs.declared.stage.Stage.{Stage}
-use Rattle.delegate_ops.specs.declared.stage.Stage.TheVariants as stage
-use Rattle.delegate_ops.specs.Deciding.{address_of, generation_in}
 use Rattle.delegate_ops.specs.Changing.{from_of, to_of, raised_at}
-use Rattle.delegate_ops.specs.InnerAgents.{AgentData, IsChangeOf, IsStage, number_of, task_of, kept_raised, merging_stage, merged_stage, raised_stage, goes_to}
+use Rattle.delegate_ops.specs.InnerAgents.{IsChangeOf, number_of, kept_raised, merging_stage, merged_stage, raised_stage}
 use Rattle.delegate_ops.proofs.AgentLemmas.{at_stage}
-use Rattle.core_machine.specs.declared.caller.Caller.TheVariants as caller
-use Rattle.core_machine.specs.InnerLocks.{is_inside}
-use Rattle.core_machine.specs.InnerOpened.{open_by, open_at}
-use Rattle.core_machine.specs.InnerSeen.{comes_before, SeesGeneration, SeesAll, SeesAt}
-use Rattle.core_machine.specs.InnerRaised.{is_due_at, is_around, is_due}
-use Rattle.core_machine.specs.InnerCounted.{coming_at}
-use Rattle.core_machine.specs.InnerInvariant.{IsMade}
-use Rattle.core_machine.specs.InnerScene.{Scene, state_in, HoldsIn, scene_after}
 use Rattle.core_machine.proofs.ListLemmas.{one}
-use Rattle.core_machine.specs.InnerTables.{known_at, AreTables}
-use Rattle.core_machine.proofs.StepLemmas.{map_in}
-use Rattle.core_machine.proofs.HolderLemmas.{holders_of, holder_at, alone_there, tables_after, tables_stay}
+use Rattle.core_machine.proofs.ActLemmas.{IsOwn, holders_of, holder_at, alone_there, tables_after, tables_stay, Acting, inside_of, generation_below, closed_of, counts_of, seen_of, goes_keeps}
 use Rattle.core_machine.proofs.WordLemmas.{Writes, writes_one, words_left, generation_left}
-use Rattle.core_machine.proofs.OthersLemmas.{region_at}
-use Rattle.core_machine.proofs.OpenedLemmas.{opened_settle, open_here}
+use Rattle.core_machine.proofs.OpenedLemmas.{open_here}
 use Rattle.core_machine.proofs.CountedLemmas.{done_counted}
-use Rattle.core_machine.proofs.ActLemmas.{Acting, inside_of, lock_of_task, other_lock, others_left, generation_below, closed_of, counts_of, seen_of, opened_same, goes_keeps}
+use Rattle.core_machine.proofs.AddressLemmas.{lock_by_region, region_at}
+use Rattle.core_machine.proofs.StepLemmas.{list_of, added_to, map_next, opened_with}
 use Rattle.core_machine.proofs.LockActs.{ActKeeps}
 use Rattle.core_machine.proofs.LoadActs.{counts_from}
-use Rattle.core_machine.specs.Facts.{IsCounted, generation_word}
-use Rattle.delegate_ops.specs.InnerEntries.{entries_at, made_at}
-use Rattle.delegate_ops.specs.Script.{granule_of_task, entries_of}
+use Rattle.delegate_ops.specs.Script.{entries_of}
 
 -- ---- what a holder sees after its raise
 
@@ -82,31 +56,25 @@ raised_other size.ThirtyTwo size.ThirtyTwo k apart = absurd (apart refl)
 raised_other size.FiveTwelve size.FiveTwelve k apart = absurd (apart refl)
 raised_other z y k apart = refl
 
-writes_raise : {s : Scene} {c : ℕ} {a : AgentData} {t : Task} {st : Stage} (acting : Acting s c a t st) (z : Size) (v : ℕ)
-    → Writes a.geometry s.words (Some (Generation z (address_of t / size_bytes z))) (set s.words (gen_place_of a.geometry z (address_of t)) v)
-writes_raise {s = s} {a = a} {t = t} acting z v = writes_one a.geometry s.words (Generation z (address_of t / size_bytes z)) v (generation_named a.geometry z (address_of t) (inside_of acting))
+-- the words after its raise of a size
+abbrev raised_words : Scene → AgentData → Task → Size → Kept → List ℕ
+raised_words s a t z k = set s.words (gen_place_of a.geometry z (address_of t)) (generation_in z k.generations + 1)
 
-sees_raised : {s : Scene} {c : ℕ} {a : AgentData} {t : Task} (ch : Change) (z : Size) (k : Kept) (acting : Acting s c a t (stage.Raising ch z k))
-    → SeesAll a.geometry (map_in s) (set s.words (gen_place_of a.geometry z (address_of t)) (generation_in z k.generations + 1)) t (to_of t ch) (kept_raised z k)
-sees_raised {s = s} {a = a} {t = t} ch z k acting =
+writes_raise : {s : Scene} {c : ℕ} {a : AgentData} {t : Task} {st : Stage} (acting : Acting s c a t st) (z : Size) (k : Kept) → Writes a.geometry s.words (Some (Generation z (address_of t / size_bytes z))) (raised_words s a t z k)
+writes_raise {s = s} {a = a} {t = t} acting z k = writes_one a.geometry s.words (Generation z (address_of t / size_bytes z)) (generation_in z k.generations + 1) (generation_named a.geometry z (address_of t) (inside_of acting))
+
+sees_raised : {s : Scene} {c : ℕ} {a : AgentData} {t : Task} (ch : Change) (z : Size) (k : Kept) (acting : Acting s c a t (stage.Raising ch z k)) (y : Size) → SeesGeneration a.geometry (raised_words s a t z k) t (kept_raised z k).generations y
+sees_raised {s = s} {a = a} {t = t} ch z k acting y =
     let g = a.geometry in
     let pa = address_of t in
-    let after = set s.words (gen_place_of g z pa) (generation_in z k.generations + 1) in
-    let writes = writes_raise acting z (generation_in z k.generations + 1) in
-    let sees : SeesAll g (map_in s) s.words t (to_of t ch) k = seen_of acting in
-    record {
-      known = sees.known;
-      gives = sees.gives;
-      generations = λ y.
-          elim (size_cases y z) [
-            | inl same ↦
-                subst (λ (x : Size). SeesGeneration g after t (kept_raised z k).generations x) (sym same)
-                (get_or-set_same s.words (gen_place_of g z pa) (generation_in z k.generations + 1) 0 (generation_below acting z) ∙ sym (raised_own z k.generations))
-            | inr apart ↦
-                generation_left writes y (pa / size_bytes y) (generation_named g y pa (inside_of acting)) (λ same. apart (let e : y ≡ z = cc in e))
-                ∙ sees.generations y ∙ sym (raised_other z y k.generations apart)
-          ];
-    }
+    elim (size_cases y z) [
+      | inl same ↦
+          subst (λ (x : Size). SeesGeneration g (raised_words s a t z k) t (kept_raised z k).generations x) (sym same)
+          (get_or-set_same s.words (gen_place_of g z pa) (generation_in z k.generations + 1) 0 (generation_below acting z) ∙ sym (raised_own z k.generations))
+      | inr apart ↦
+          generation_left (writes_raise acting z k) y (pa / size_bytes y) (generation_named g y pa (inside_of acting)) (λ same. apart (let e : y ≡ z = cc in e))
+          ∙ (seen_of acting).generations y ∙ sym (raised_other z y k.generations apart)
+    ]
 
 -- ---- what is due after a raise
 
@@ -134,17 +102,20 @@ last_others : (y : Size) → y ≢ size.FiveTwelve → false ≡ not (comes_befo
 last_others size.FiveTwelve apart = absurd (apart refl)
 last_others y apart = refl
 
+owes_last : (c : Change) (k : Kept) (next : Stage) → ((y : Size) → is_due_at next y ≡ false) → Owes c size.FiveTwelve k next
+owes_last c k next none = record { own = refl; paid = none size.FiveTwelve; others = λ y apart. none y ∙ last_others y apart }
+
 -- each generation with what is due of it is as before
 raised_sum : {s : Scene} {c : ℕ} {a : AgentData} {t : Task} (ch : Change) (z : Size) (k : Kept) (next : Stage) (acting : Acting s c a t (stage.Raising ch z k)) → Owes ch z k next → (y : Size) (region : ℕ) → region < blocks_in_region y * a.geometry.setup.gigabytes
-    → generation_word a.geometry (set s.words (gen_place_of a.geometry z (address_of t)) (generation_in z k.generations + 1)) y region + one (is_due_at next y && is_around a.geometry y region (Some t))
+    → generation_word a.geometry (raised_words s a t z k) y region + one (is_due_at next y && is_around a.geometry y region (Some t))
     ≡ generation_word a.geometry s.words y region + one (is_due_at (stage.Raising ch z k) y && is_around a.geometry y region (Some t)) + 0
 raised_sum {s = s} {a = a} {t = t} ch z k next acting owes y region within =
     let g = a.geometry in
     let block = address_of t / size_bytes z in
     let v = generation_in z k.generations + 1 in
-    let writes = writes_raise acting z v in
-    let sees : SeesAll g (map_in s) s.words t (to_of t ch) k = seen_of acting in
-    let around : region_of (granule_bytes g.setup) z (granule_of_task g t) ≡ block = region_at g z t acting.acts in
+    let writes = writes_raise acting z k in
+    let sees = seen_of acting in
+    let around : region_of (granule_bytes g.setup) z (granule_of_task g t) ≡ block = region_at g t acting.acts z in
     elim (size_cases y z) [
       | inl same ↦
           subst (λ (x : Size). generation_word g (set s.words (gen_place_of g z (address_of t)) v) x region + one (is_due_at next x && is_around g x region (Some t))
@@ -164,27 +135,57 @@ raised_sum {s = s} {a = a} {t = t} ch z k next acting owes y region within =
           rw (generation_left writes y region within (λ both. apart (let e : y ≡ z = cc in e)), owes.others y apart) (omega arith)
     ]
 
--- ---- a raise that isn't the third
+-- ---- any raise
 
-raise_quietly : {s : Scene} {c : ℕ} {a : AgentData} {t : Task} (ch : Change) (z : Size) (k : Kept) (next : Size) (acting : Acting s c a t (stage.Raising ch z k)) → Owes ch z k (stage.Raising ch next (kept_raised z k))
-    → IsMade a.geometry (caller.Agent (goes_to (at_stage a (stage.Raising ch z k)) (stage.Raising ch next (kept_raised z k))))
-    → HoldsIn a.geometry (scene_after s c (caller.Agent (goes_to (at_stage a (stage.Raising ch z k)) (stage.Raising ch next (kept_raised z k)))) (set s.words (gen_place_of a.geometry z (address_of t)) (generation_in z k.generations + 1)) [])
-raise_quietly {s = s} {a = a} {t = t} ch z k next acting owes made =
-    let writes = writes_raise acting z (generation_in z k.generations + 1) in
-    goes_keeps acting (stage.Raising ch next (kept_raised z k)) (Some (Generation z (address_of t / size_bytes z))) (set s.words (gen_place_of a.geometry z (address_of t)) (generation_in z k.generations + 1)) None
+-- It goes on to this stage, and made this entry, if it made one.
+pub record Raises (s : Scene) (c : ℕ) (a : AgentData) (t : Task) (ch : Change) (z : Size) (k : Kept) (next : Stage) (o : Option Entry) : Type 0 where
+  pub stays : is_inside next ≡ true
+  pub made : IsMade a.geometry (caller.Agent (goes_to (at_stage a (stage.Raising ch z k)) next))
+  pub words : AreWords a.geometry (map_next s o) (apart_by a.geometry.setup (holders_of (set s.callers c (caller.Agent (goes_to (at_stage a (stage.Raising ch z k)) next))))) (raised_words s a t z k)
+  pub owes : Owes ch z k next
+  pub entry : IfSome o (IsOwn s c a t)
+  pub no_change : (y : Size) (region : ℕ) → added_to a.geometry y region o ≡ 0
+  pub opened : open_at a.geometry next (Some t) ≡ opened_with o (open_at a.geometry (stage.Raising ch z k) (Some t))
+  pub sees : SeesAt a.geometry (map_next s o) (raised_words s a t z k) t next
+  pub coming : (given : Answer) → coming_at next ≡ given ∷ [] → IsCounted a.geometry c (length a.answers) t given (s.history ++ list_of o)
+  pub front : entries_at a.geometry c (length a.answers) next (Some t) ≡ entries_at a.geometry c (length a.answers) (stage.Raising ch z k) (Some t) ++ list_of o
+
+raise_goes : {s : Scene} {c : ℕ} {a : AgentData} {t : Task} (ch : Change) (z : Size) (k : Kept) (next : Stage) (o : Option Entry) (acting : Acting s c a t (stage.Raising ch z k)) → Raises s c a t ch z k next o
+    → HoldsIn a.geometry (scene_after s c (caller.Agent (goes_to (at_stage a (stage.Raising ch z k)) next)) (raised_words s a t z k) (list_of o))
+raise_goes {s = s} {a = a} {t = t} ch z k next o acting raises =
+    goes_keeps acting next (Some (Generation z (address_of t / size_bytes z))) (raised_words s a t z k) o
     (record {
       inside = refl;
-      stays = refl;
-      made = made;
-      writes = writes;
+      stays = raises.stays;
+      made = raises.made;
+      writes = writes_raise acting z k;
+      block = λ m other same. other (sym (lock_by_region a.geometry.setup z (address_of t / size_bytes z) (address_of t) refl) ∙ same);
       no_lock = refl;
       idle = refl;
+      entry = raises.entry;
+      words = raises.words;
+      opened = raises.opened;
+      seen = raises.sees;
+      raised = λ y region within. omega (arith, raised_sum ch z k next acting raises.owes y region within, raises.no_change y region);
+      coming = raises.coming;
+      front = raises.front;
+    })
+
+-- one that isn't the third
+raise_quietly : {s : Scene} {c : ℕ} {a : AgentData} {t : Task} (ch : Change) (z : Size) (k : Kept) (next : Size) (acting : Acting s c a t (stage.Raising ch z k)) → Owes ch z k (stage.Raising ch next (kept_raised z k))
+    → IsMade a.geometry (caller.Agent (goes_to (at_stage a (stage.Raising ch z k)) (stage.Raising ch next (kept_raised z k))))
+    → HoldsIn a.geometry (scene_after s c (caller.Agent (goes_to (at_stage a (stage.Raising ch z k)) (stage.Raising ch next (kept_raised z k)))) (raised_words s a t z k) [])
+raise_quietly {s = s} {a = a} {t = t} ch z k next acting owes made =
+    raise_goes ch z k (stage.Raising ch next (kept_raised z k)) None acting
+    (record {
+      stays = refl;
+      made = made;
+      words = tables_stay acting refl (stage.Raising ch next (kept_raised z k)) refl (writes_raise acting z k) refl;
+      owes = owes;
       entry = tt;
-      tables = tables_stay acting refl (stage.Raising ch next (kept_raised z k)) refl writes refl;
-      others = others_left acting (lock_of_task a t) writes (address_of t, refl, refl) (other_lock acting refl);
-      opened = opened_same acting (stage.Raising ch next (kept_raised z k)) refl;
-      seen = sees_raised ch z k acting;
-      raised = raised_sum ch z k (stage.Raising ch next (kept_raised z k)) acting owes;
+      no_change = λ y region. refl;
+      opened = refl;
+      sees = record { known = (seen_of acting).known; gives = (seen_of acting).gives; generations = sees_raised ch z k acting };
       coming = λ given is. absurd cc;
       front = sym (append-nil _);
     })
@@ -195,8 +196,8 @@ raise_quietly {s = s} {a = a} {t = t} ch z k next acting owes made =
 pub record Settles (g : GeometryData) (m : ℕ → Gpi) (words : List ℕ) (c k : ℕ) (t : Task) (ch : Change) (kept : Kept) (next : Stage) : Type 0 where
   pub stays : is_inside next ≡ true
   pub closes : open_at g next (Some t) ≡ []
-  pub owes : Owes ch size.FiveTwelve kept next
-  pub sees : SeesAll g m words t (to_of t ch) (kept_raised size.FiveTwelve kept) → SeesAt g m words next (Some t)
+  pub none_due : (y : Size) → is_due_at next y ≡ false
+  pub sees : Facts g.setup m (granule_of_task g t) (Keeps kept.word) → to_of t ch ≡ m (granule_of_task g t) → ((y : Size) → SeesGeneration g words t (kept_raised size.FiveTwelve kept).generations y) → SeesAt g m words t next
   pub front : entries_at g c k next (Some t) ≡ entries_at g c k (stage.Raising ch size.FiveTwelve kept) (Some t) ++ entry.Settled c k (granule_of_task g t) ∷ []
   pub coming : (given : Answer) → coming_at next ≡ given ∷ [] → given ≡ answer.Done (kept_raised size.FiveTwelve kept).generations
 
@@ -204,8 +205,8 @@ settle_first : (g : GeometryData) (m : ℕ → Gpi) (words : List ℕ) (c k : �
 settle_first g m words c k (task.Undelegate pa source) kept is = record {
   stays = refl;
   closes = refl;
-  owes = record { own = refl; paid = refl; others = last_others };
-  sees = λ sees. sees;
+  none_due = λ y. refl;
+  sees = λ known gives generations. record { known = known; gives = gives; generations = generations };
   front = refl;
   coming = λ given e. absurd cc;
 }
@@ -221,14 +222,14 @@ all_front g c k t kept is = absurd is
 settle_last : (g : GeometryData) (m : ℕ → Gpi) (words : List ℕ) (c k : ℕ) (t : Task) (kept : Kept) (f : FuseData) (o : Option Act) → IsChangeOf t change.Last → Facts g.setup m (granule_of_task g t) (Merges f.gpi f.step)
     → Settles g m words c k t change.Last kept (merging_stage o f (kept_raised size.FiveTwelve kept).generations)
 settle_last g m words c k t kept f None is known =
-    record { stays = refl; closes = refl; owes = record { own = refl; paid = refl; others = last_others }; sees = λ sees. tt; front = all_front g c k t kept is; coming = λ given e. cc }
+    record { stays = refl; closes = refl; none_due = λ y. refl; sees = λ kept gives generations. record { known = tt; gives = tt; generations = tt }; front = all_front g c k t kept is; coming = λ given e. cc }
 settle_last g m words c k t kept f (Some next) is known =
-    record { stays = refl; closes = refl; owes = record { own = refl; paid = refl; others = last_others }; sees = λ sees. known; front = all_front g c k t kept is; coming = λ given e. cc }
+    record { stays = refl; closes = refl; none_due = λ y. refl; sees = λ kept gives generations. record { known = known; gives = tt; generations = tt }; front = all_front g c k t kept is; coming = λ given e. cc }
 
 settle_none : (g : GeometryData) (m : ℕ → Gpi) (words : List ℕ) (c k : ℕ) (t : Task) (kept : Kept) → IsChangeOf t change.Last
     → Settles g m words c k t change.Last kept (stage.Releasing (answer.Done (kept_raised size.FiveTwelve kept).generations))
 settle_none g m words c k t kept is =
-    record { stays = refl; closes = refl; owes = record { own = refl; paid = refl; others = last_others }; sees = λ sees. tt; front = all_front g c k t kept is; coming = λ given e. cc }
+    record { stays = refl; closes = refl; none_due = λ y. refl; sees = λ kept gives generations. record { known = tt; gives = tt; generations = tt }; front = all_front g c k t kept is; coming = λ given e. cc }
 
 -- of each size: raised before, or by this raise
 settled_count : (g : GeometryData) (t : Task) (a : AgentData) (ch : Change) (k : Kept) (y : Size) (count : ℕ) → a.geometry ≡ g → a.stage ≡ stage.Raising ch size.FiveTwelve k → task_of a ≡ Some t
@@ -238,37 +239,26 @@ settled_count g t a ch k size.ThirtyTwo count same at under_way seen = let sum =
 settled_count g t a ch k size.FiveTwelve count same at under_way seen = let sum = rw (at, under_way, same, eq-eqb _ _ refl) at seen in omega (arith, sum)
 
 raise_last : {s : Scene} {c : ℕ} {a : AgentData} {t : Task} (ch : Change) (k : Kept) (next : Stage) (acting : Acting s c a t (stage.Raising ch size.FiveTwelve k))
-    → Settles a.geometry (map_in s) (set s.words (gen_place_of a.geometry size.FiveTwelve (address_of t)) (k.generations.five_twelve + 1)) c (length a.answers) t ch k next
-    → AreTables a.geometry (set s.words (gen_place_of a.geometry size.FiveTwelve (address_of t)) (k.generations.five_twelve + 1)) (set s.callers c (caller.Agent (goes_to (at_stage a (stage.Raising ch size.FiveTwelve k)) next))) (map_in s)
+    → Settles a.geometry (map_in s) (raised_words s a t size.FiveTwelve k) c (length a.answers) t ch k next
+    → AreWords a.geometry (map_in s) (apart_by a.geometry.setup (holders_of (set s.callers c (caller.Agent (goes_to (at_stage a (stage.Raising ch size.FiveTwelve k)) next))))) (raised_words s a t size.FiveTwelve k)
     → IsMade a.geometry (caller.Agent (goes_to (at_stage a (stage.Raising ch size.FiveTwelve k)) next))
-    → HoldsIn a.geometry (scene_after s c (caller.Agent (goes_to (at_stage a (stage.Raising ch size.FiveTwelve k)) next)) (set s.words (gen_place_of a.geometry size.FiveTwelve (address_of t)) (k.generations.five_twelve + 1))
-    (entry.Settled c (length a.answers) (granule_of_task a.geometry t) ∷ []))
-raise_last {s = s} {c = c} {a = a} {t = t} ch k next acting settles tables made =
+    → HoldsIn a.geometry (scene_after s c (caller.Agent (goes_to (at_stage a (stage.Raising ch size.FiveTwelve k)) next)) (raised_words s a t size.FiveTwelve k) (entry.Settled c (length a.answers) (granule_of_task a.geometry t) ∷ []))
+raise_last {s = s} {c = c} {a = a} {t = t} ch k next acting settles words made =
     let g = a.geometry in
     let me = caller.Agent (at_stage a (stage.Raising ch size.FiveTwelve k)) in
-    let x = caller.Agent (goes_to (at_stage a (stage.Raising ch size.FiveTwelve k)) next) in
-    let after = set s.words (gen_place_of g size.FiveTwelve (address_of t)) (k.generations.five_twelve + 1) in
-    let writes = writes_raise acting size.FiveTwelve (k.generations.five_twelve + 1) in
     let granule = granule_of_task g t in
     let e = entry.Settled c (length a.answers) granule in
-    let closed = closed_of acting refl in
-    let sees : SeesAll g (map_in s) s.words t (to_of t ch) k = seen_of acting in
-    let own_open : open_by me ≡ (granule, from_of t ch) ∷ [] = rw acting.under_way refl in
-    let own_closed : open_by x ≡ [] = rw acting.under_way settles.closes in
-    goes_keeps acting next (Some (Generation size.FiveTwelve (address_of t / size_bytes size.FiveTwelve))) after (Some e)
+    let sees = seen_of acting in
+    raise_goes ch size.FiveTwelve k next (Some e) acting
     (record {
-      inside = refl;
       stays = settles.stays;
       made = made;
-      writes = writes;
-      no_lock = refl;
-      idle = refl;
-      entry = record { caller = refl; call = refl; granule = refl; allowed = open_here (state_in s) s.callers c granule (from_of t ch) me acting.at acting.stands.opened closed own_open };
-      tables = tables;
-      others = others_left acting (lock_of_task a t) writes (address_of t, refl, refl) (other_lock acting refl);
-      opened = opened_settle (state_in s).opened _ s.callers c granule (from_of t ch) me x acting.at acting.stands.opened refl own_open own_closed closed;
-      seen = settles.sees (sees_raised ch size.FiveTwelve k acting);
-      raised = raised_sum ch size.FiveTwelve k next acting settles.owes;
+      words = words;
+      owes = owes_last ch k next settles.none_due;
+      entry = record { caller = refl; call = refl; granule = refl; allowed = open_here (state_in s) s.callers c granule (from_of t ch) me acting.at acting.stands.opened (closed_of acting refl) (rw acting.under_way refl) };
+      no_change = λ y region. refl;
+      opened = settles.closes ∙ rw (eq-eqb granule granule refl) refl;
+      sees = settles.sees sees.known sees.gives (sees_raised ch size.FiveTwelve k acting);
       coming = λ given is.
           subst (λ (x : Answer). IsCounted g c (length a.answers) t x (s.history ++ e ∷ [])) (sym (settles.coming given is))
           (done_counted g c (length a.answers) t (kept_raised size.FiveTwelve k).generations s.history
@@ -291,14 +281,13 @@ fuse_with g index o = record {
 }
 
 -- the words by the step of merging that follows
-merging_words : {s : Scene} {c : ℕ} {a : AgentData} {t : Task} (k : Kept) (step : Step) (next : Stage) (v : ℕ) (acting : Acting s c a t (stage.Raising change.Last size.FiveTwelve k)) → step_of (known_at next) ≡ step
+merging_words : {s : Scene} {c : ℕ} {a : AgentData} {t : Task} (k : Kept) (step : Step) (next : Stage) (acting : Acting s c a t (stage.Raising change.Last size.FiveTwelve k)) → step_of (known_at next) ≡ step
     → AreWords a.geometry (map_in s) (apart_by a.geometry.setup (set (holders_of s.callers) c (record { granule = granule_of_task a.geometry t; step = step }))) s.words
-    → AreTables a.geometry (set s.words (gen_place_of a.geometry size.FiveTwelve (address_of t)) v) (set s.callers c (caller.Agent (goes_to (at_stage a (stage.Raising change.Last size.FiveTwelve k)) next))) (map_in s)
-merging_words {s = s} {c = c} {a = a} {t = t} k step next v acting same are =
-    let after = set s.words (gen_place_of a.geometry size.FiveTwelve (address_of t)) v in
-    tables_after acting next after
-    (subst (λ (x : Step). AreWords a.geometry (map_in s) (apart_by a.geometry.setup (set (holders_of s.callers) c (record { granule = granule_of_task a.geometry t; step = x }))) after) (sym same)
-    (words_left (writes_raise acting size.FiveTwelve v) (map_in s) _ refl acting.stands.shape.geometry are))
+    → AreWords a.geometry (map_in s) (apart_by a.geometry.setup (holders_of (set s.callers c (caller.Agent (goes_to (at_stage a (stage.Raising change.Last size.FiveTwelve k)) next))))) (raised_words s a t size.FiveTwelve k)
+merging_words {s = s} {c = c} {a = a} {t = t} k step next acting same are =
+    tables_after acting next (map_in s) (raised_words s a t size.FiveTwelve k)
+    (subst (λ (x : Step). AreWords a.geometry (map_in s) (apart_by a.geometry.setup (set (holders_of s.callers) c (record { granule = granule_of_task a.geometry t; step = x }))) (raised_words s a t size.FiveTwelve k)) (sym same)
+    (words_left (writes_raise acting size.FiveTwelve k) (map_in s) _ refl acting.stands.shape.geometry are))
 
 -- where merging is over its tables are whole
 pub merging_step_of : (f : FuseData) (k : Generations) (o : Option Act) → fuse.next_of f ≡ o → step_of (known_at (merging_stage o f k)) ≡ merging_step f.step
@@ -314,15 +303,15 @@ merging_step_of f k None over = over_step f.first f.own f.two f.gpi f.step over
 last_raise : {s : Scene} {c : ℕ} {a : AgentData} {t : Task} (k : Kept) (index : ℕ) (o : Option Gpi) (acting : Acting s c a t (stage.Raising change.Last size.FiveTwelve k)) → IsChangeOf t change.Last → equal_gpi k.word ≡ o
     → IsMade a.geometry (caller.Agent (goes_to (at_stage a (stage.Raising change.Last size.FiveTwelve k)) (merged_stage (fuse_with a.geometry index o) (kept_raised size.FiveTwelve k).generations)))
     → HoldsIn a.geometry (scene_after s c (caller.Agent (goes_to (at_stage a (stage.Raising change.Last size.FiveTwelve k)) (merged_stage (fuse_with a.geometry index o) (kept_raised size.FiveTwelve k).generations)))
-    (set s.words (gen_place_of a.geometry size.FiveTwelve (address_of t)) (k.generations.five_twelve + 1)) (entry.Settled c (length a.answers) (granule_of_task a.geometry t) ∷ []))
+    (raised_words s a t size.FiveTwelve k) (entry.Settled c (length a.answers) (granule_of_task a.geometry t) ∷ []))
 last_raise {s = s} {c = c} {a = a} {t = t} k index None acting is equal made =
     let g = a.geometry in
     let granule = granule_of_task g t in
-    let sees : SeesAll g (map_in s) s.words t (to_of t change.Last) k = seen_of acting in
+    let sees = seen_of acting in
     let none : largest_block g.setup (map_in s) None (granule / 16) ≡ None =
     finds_largest g.setup (map_in s) granule None (inr (inl (λ v same. equal_none k.word equal v (sees.known ∙ same)))) in
     raise_last change.Last k (stage.Releasing (answer.Done (kept_raised size.FiveTwelve k).generations)) acting (settle_none g (map_in s) _ c (length a.answers) t k is)
-    (merging_words k Whole (stage.Releasing (answer.Done (kept_raised size.FiveTwelve k).generations)) _ acting refl
+    (merging_words k Whole (stage.Releasing (answer.Done (kept_raised size.FiveTwelve k).generations)) acting refl
     (no_merge g (map_in s) (holders_of s.callers) c granule s.words (holder_at acting) (alone_there acting refl) none acting.stands.tables.level1))
     made
 last_raise {s = s} {c = c} {a = a} {t = t} k index (Some v) acting is equal made =
@@ -330,24 +319,24 @@ last_raise {s = s} {c = c} {a = a} {t = t} k index (Some v) acting is equal made
     let granule = granule_of_task g t in
     let f = fuse_with g index (Some v) in
     let gens = (kept_raised size.FiveTwelve k).generations in
-    let sees : SeesAll g (map_in s) s.words t (to_of t change.Last) k = seen_of acting in
+    let sees = seen_of acting in
     let known : Facts g.setup (map_in s) granule (Merges v (begun g.setup.max (Some v))) =
     merges g.setup (map_in s) granule v (subst (λ (w : ℕ). Facts g.setup (map_in s) granule (Keeps w)) (equal_found k.word v equal) sees.known) in
     raise_last change.Last k (merged_stage f gens) acting (settle_last g (map_in s) _ c (length a.answers) t k f (fuse.next_of f) is known)
-    (merging_words k (merging_step f.step) (merged_stage f gens) _ acting (merging_step_of f gens (fuse.next_of f) refl)
+    (merging_words k (merging_step f.step) (merged_stage f gens) acting (merging_step_of f gens (fuse.next_of f) refl)
     (load_words g (map_in s) (holders_of s.callers) c granule v f.step s.words (holder_at acting) (alone_there acting refl) (begun_unstored g.setup.max (Some v)) known.1 acting.stands.tables.level1))
     made
 
--- ---- any raise
+-- ---- all raises
 
 raise_at : {s : Scene} {c : ℕ} {a : AgentData} {t : Task} (ch : Change) (z : Size) (k : Kept) (acting : Acting s c a t (stage.Raising ch z k)) → IsChangeOf t ch
-    → HoldsIn a.geometry (scene_after s c (caller.Agent (goes_to (at_stage a (stage.Raising ch z k)) (raised_stage a.geometry t ch z (kept_raised z k)))) (set s.words (gen_place_of a.geometry z (address_of t)) (generation_in z k.generations + 1))
+    → HoldsIn a.geometry (scene_after s c (caller.Agent (goes_to (at_stage a (stage.Raising ch z k)) (raised_stage a.geometry t ch z (kept_raised z k)))) (raised_words s a t z k)
     (made_at a.geometry c (length a.answers) (stage.Raising ch z k) (Some t) 0))
 raise_at ch size.Two k acting is = raise_quietly ch size.Two k size.ThirtyTwo acting (owes_two ch k _) (acting.made 0)
 raise_at ch size.ThirtyTwo k acting is = raise_quietly ch size.ThirtyTwo k size.FiveTwelve acting (owes_thirty_two ch k _) (acting.made 0)
 raise_at {s = s} {c = c} {a = a} {t = t} change.First size.FiveTwelve k acting is =
     let next = stage.Changing change.Last (kept_raised size.FiveTwelve k) in
-    raise_last change.First k next acting (settle_first a.geometry (map_in s) _ c (length a.answers) t k is) (tables_stay acting refl next refl (writes_raise acting size.FiveTwelve (k.generations.five_twelve + 1)) refl) (acting.made 0)
+    raise_last change.First k next acting (settle_first a.geometry (map_in s) _ c (length a.answers) t k is) (tables_stay acting refl next refl (writes_raise acting size.FiveTwelve k) refl) (acting.made 0)
 raise_at {s = s} {c = c} {a = a} {t = t} change.Last size.FiveTwelve k acting is =
     last_raise k (number_of (l1_index_of a.geometry (address_of t))) (equal_gpi k.word) acting is refl (acting.made 0)
 

@@ -1,67 +1,40 @@
 -- What a run leaves: its trace, and what answers and words are for the trace's history.
-use Rattle.std.proofs.Common.{◌≡◌, ◌≢◌, ℕ, zero, suc, ◌+◌, ◌*◌, ◌/◌, ◌<◌, ◌≤◌, not, ◌⊎◌, ◌∷◌, [], List, Bool, true, false, ◌&&◌, eqb, map, length, Option, Some, None, refl, sym, ap, ◌∙◌, subst, arith, inl, inr}
+use Rattle.std.proofs.Common.{◌≡◌, ◌≢◌, ℕ, zero, suc, ◌+◌, ◌*◌, ◌<◌, ◌≤◌, not, ◌⊎◌, ◌∷◌, [], List, true, false, map, length, Option, Some, None, refl, sym, ap, ◌∙◌, subst, arith, inl, inr}
 use Rattle.std.specs.Prelude.{slice_get, is_some, Result, Ok, Err, IfOk}
 use Rattle.history.specs.declared.outcome.Outcome.{Outcome}
 use Rattle.std.specs.List.{All, count_by}
 use Rattle.std.specs.Option.{option_map}
-use Rattle.std.proofs.Math.Nat.{mul-div_cancel}
-use Rattle.std.proofs.lemmas.Bool.{cases_Bool, eqb-true, ne_eqb}
+use Rattle.std.proofs.lemmas.Bool.{cases_Bool, ne_eqb}
 use Rattle.std.proofs.lemmas.List.{length-map}
 use Rattle.std.proofs.lemmas.List.Sums.{sum_by-cons}
 use Rattle.std.proofs.lemmas.List.Elements.{All-head, All-tail}
 use Rattle.std.proofs.lemmas.Option.{slice_get_cases, slice_get-map, slice_get_past, slice_get_within}
-use Rattle.gpt_descriptors.specs.declared.size.Size.{Size}
-use Rattle.gpt_descriptors.specs.declared.size.Size.TheVariants as size
-use Rattle.gpt_descriptors.specs.Sizes.{granule_bytes, size_bytes}
-use Rattle.gpt_descriptors.specs.Places.{GeometryData, blocks_in_region}
-use Rattle.shared_words.specs.declared.act.Act.{Act}
-use Rattle.bit_locks.specs.Locks.{lock_number, lock_bit}
-use Rattle.scenario_text.specs.declared.scenario.Scenario.{Scenario}
-use Rattle.scenario_text.specs.declared.scenario.Script.{Script}
-use Rattle.scenario_text.specs.declared.scenario.Script.TheVariants as script
-use Rattle.history.specs.declared.call.Task.{Task}
-use Rattle.history.specs.declared.call.Answer.{Answer}
-use Rattle.history.specs.declared.entry.Entry.{Entry}
-use Rattle.history.specs.Calls.{task_at, answer_at}
-use Rattle.history.specs.Counts.{region_of, count_of}
-use Rattle.delegate_ops.specs.declared.stage.Stage.{Stage}
-use Rattle.delegate_ops.specs.declared.stage.Stage.TheVariants as stage
-use Rattle.delegate_ops.specs.Deciding.{address_of, HasCause}
-use Rattle.delegate_ops.specs.InnerAgents.{AgentData, fresh, task_of, IsAgent, has_ended, next_of}
-use Rattle.delegate_ops.proofs.DecidingLemmas.{acts_inside}
-use Rattle.delegate_ops.specs.Script.{granule_of_task, Follows}
+use Rattle.core_machine.proofs.Names.{Size, granule_bytes, size_bytes, GeometryData, blocks_in_region, word_count, Act, lock_number, lock_bit, Scenario, Script, Task, Answer, answer_at, count_of, AgentData, fresh, IsAgent, next_of, Caller, caller_next, caller_answers, holds, is_due, caller_tasks, IsMade, HoldsIn, InvariantFor, scene_of, caller_of, opening_of, played, IsCounted, generation_word, TraceEvent, history_of, first_map, geometry_of, task_of_ask, turns_in, Scene, is_inside, coming_at}
+use Rattle.core_machine.proofs.Names.script
+use Rattle.core_machine.proofs.Names.caller
+use Rattle.history.specs.Calls.{task_at}
+use Rattle.delegate_ops.specs.Deciding.{HasCause}
+use Rattle.delegate_ops.specs.InnerAgents.{has_ended}
+use Rattle.delegate_ops.specs.Script.{Follows}
 use Rattle.delegate_ops.proofs.ScriptLemmas.{some_mapped}
-use Rattle.core_machine.specs.declared.caller.Caller.{Caller}
-use Rattle.core_machine.specs.declared.caller.Caller.TheVariants as caller
-use Rattle.core_machine.specs.InnerCallers.{caller_next, caller_answers}
-use Rattle.core_machine.specs.InnerLocks.{is_inside, holds}
-use Rattle.core_machine.specs.InnerRaised.{is_due_at, is_around, is_due}
-use Rattle.core_machine.specs.InnerCounted.{coming_at, caller_tasks}
-use Rattle.core_machine.specs.InnerInvariant.{IsMade}
-use Rattle.core_machine.specs.InnerMachine.{InvariantFor, entries_in}
-use Rattle.core_machine.specs.InnerPlay.{caller_of, opening_of, played, outcome_of, played_trace}
-use Rattle.core_machine.proofs.ListLemmas.{one, get_front}
+use Rattle.core_machine.specs.InnerCallers.{agent_tasks}
+use Rattle.core_machine.specs.InnerPlay.{outcome_of, played_trace}
+use Rattle.core_machine.proofs.ListLemmas.{some_or_none, one, get_front, count_none}
 use Rattle.core_machine.proofs.LockLemmas.{holder_bit}
-use Rattle.core_machine.proofs.OthersLemmas.{Holder, made_at_place, is_holder, holder_has, count_alone, count_none, region_at}
-use Rattle.core_machine.proofs.WordLemmas.{number_by_region}
-use Rattle.core_machine.proofs.RaisedLemmas.{others_raised}
-use Rattle.core_machine.proofs.ActLemmas.{lock_low}
-use Rattle.core_machine.proofs.MachineLemmas.{turns_hold, scene_of}
-use Rattle.core_machine.proofs.TraceLemmas.{played_walked, trace_entries, trace_words, trace_answered, IsDone, done_stays, turns_taken, trace_known, trace_counts}
+use Rattle.core_machine.proofs.CallerLemmas.{due_alone, placed_at, made_at_place}
+use Rattle.core_machine.proofs.MachineLemmas.{turns_hold, turns_leave, turns_shape}
+use Rattle.core_machine.proofs.TraceLemmas.{played_walked, trace_answers, IsDone, done_stays, turns_taken, trace_counts}
 use Rattle.core_machine.proofs.AnswerLemmas.{calls_cause, alone_told, worn_told}
 use Rattle.core_machine.proofs.FreeLemmas.{tables_told, words_told, whole_told}
 use Rattle.delegate_ops.proofs.FollowLemmas.{walked_follows, walked_ended}
 use Rattle.delegate_ops.proofs.NextLemmas.{next_there}
 use Rattle.scenario_text.specs.declared.scenario.Look.{Look}
 use Rattle.core_machine.proofs.LegalLemmas.{HaveTasks, AreMade, made_legal, made_calls}
-use Rattle.core_machine.proofs.PlayLemmas.{turns_geometry}
-use Rattle.core_machine.specs.InnerCallerLaws.{agent_tasks}
-use Rattle.core_machine.proofs.FitLemmas.{took_tasks, turns_leave}
-use Rattle.core_machine.specs.Facts.{IsCounted, generation_word, FitsHistory}
-use Rattle.core_machine.specs.Trace.{TraceEvent, events_of, FollowsScript, HasEnded, IsTrace, answers_by, history_of}
-use Rattle.core_machine.specs.Scenarios.{first_map, geometry_of, task_of_ask, tasks_of, turns_in, first_words}
+use Rattle.core_machine.proofs.FitLemmas.{took_tasks}
+use Rattle.core_machine.specs.Facts.{FitsHistory}
+use Rattle.core_machine.specs.Trace.{events_of, FollowsScript, HasEnded, IsTrace, answers_by}
+use Rattle.core_machine.specs.Scenarios.{tasks_of, first_words}
 use Rattle.core_machine.specs.Run.{IsRun}
-use Rattle.core_machine.specs.InnerScene.{Scene, HoldsIn}
 
 -- ---- tasks
 
@@ -113,42 +86,6 @@ counts_told g s tasks stands have c k t given asked answered =
 
 -- ---- generations
 
-pub some_or_none : (p : Caller → Bool) (callers : List Caller) → (count_by p callers ≡ 0) ⊎ ((c : ℕ) × (x : Caller) × (slice_get callers c ≡ Some x) × (p x ≡ true))
-some_or_none p [] = inl refl
-some_or_none p (x ∷ callers) =
-    let counted : count_by p (x ∷ callers) ≡ one (p x) + count_by p callers = sum_by-cons (λ z. one (p z)) x callers in
-    elim (cases_Bool (p x)) [
-      | inl passes ↦ inr (0, x, refl, passes)
-      | inr fails ↦ elim (some_or_none p callers) [
-        | inl none ↦ inl (let here : one (p x) ≡ 0 = ap one fails in omega (arith, counted, here, none))
-        | inr some ↦ inr (suc some.0, some.1, some.2, some.3)
-      ]
-    ]
-
--- what is due is due of a holder whose task is in the region
-due_task : (g : GeometryData) (s : Stage) (o : Option Task) (y : Size) (region : ℕ) → (is_due_at s y && is_around g y region o) ≡ true
-    → (t : Task) × (o ≡ Some t) × (is_inside s ≡ true) × (region_of (granule_bytes g.setup) y (granule_of_task g t) ≡ region)
-due_task g (stage.Raising c z k) (Some t) y region due =
-    elim (cases_Bool (eqb (region_of (granule_bytes g.setup) y (granule_of_task g t)) region)) [
-      | inl same ↦ (t, refl, refl, eqb-true _ _ same)
-      | inr other ↦ absurd (elim (cases_Bool (is_due_at (stage.Raising c z k) y)) [ inl is ↦ (let both : false ≡ true = rw (is, other) at due in cc) | inr not_it ↦ (let both : false ≡ true = rw not_it at due in cc) ])
-    ]
-due_task g (stage.Raising c z k) None y region due =
-    absurd (elim (cases_Bool (is_due_at (stage.Raising c z k) y)) [ inl is ↦ (let both : false ≡ true = rw is at due in cc) | inr not_it ↦ (let both : false ≡ true = rw not_it at due in cc) ])
-due_task g s o y region due = absurd cc
-
-due_holder : (g : GeometryData) (callers : List Caller) (c : ℕ) (x : Caller) (y : Size) (region : ℕ) → slice_get callers c ≡ Some x → IsMade g x → is_due y region x ≡ true
-    → (a : AgentData) × (t : Task) × Holder g callers c a t × (region_of (granule_bytes g.setup) y (granule_of_task g t) ≡ region) × (is_due y region (caller.Agent a) ≡ true)
-due_holder g callers c (caller.Cpu looks) y region at made due = absurd cc
-due_holder g callers c (caller.Agent a) y region at made due =
-    let task = due_task a.geometry a.stage (task_of a) y region due in
-    (a, task.0, is_holder g callers c a task.0 at made task.1 task.2, ap (λ (k : GeometryData). region_of (granule_bytes k.setup) y (granule_of_task k task.0)) (sym made.0) ∙ task.3, due)
-
-size_some : (y : Size) → 0 < size_bytes y
-size_some size.Two = omega arith
-size_some size.ThirtyTwo = omega arith
-size_some size.FiveTwelve = omega arith
-
 pub generations_told : (g : GeometryData) (s : Scene) → HoldsIn g s → (y : Size) (region : ℕ) → region < blocks_in_region y * g.setup.gigabytes
     → (generation_word g s.words y region ≡ count_of g.setup.first (granule_bytes g.setup) y region s.history)
     ⊎ ((generation_word g s.words y region + 1 ≡ count_of g.setup.first (granule_bytes g.setup) y region s.history) × (lock_bit s.words (lock_number g.setup (region * size_bytes y)) ≡ 1))
@@ -156,24 +93,11 @@ generations_told g s stands y region within =
     elim (some_or_none (is_due y region) s.callers) [
       | inl none ↦ inl (omega (arith, stands.generations y region within, none))
       | inr some ↦
-          (let made = made_at_place g s.first s.words s.callers some.0 some.1 stands.shape some.2 in
-          let owner = due_holder g s.callers some.0 some.1 y region some.2 made some.3 in
-          let holder = owner.2 in
-          let pa = address_of owner.1 in
-          let low : lock_number g.setup pa < 128 = lock_low g.setup pa stands.shape.geometry.setup (acts_inside g owner.1 holder.acts) in
-          let region_is : pa / size_bytes y ≡ region = sym (region_at g y owner.1 holder.acts) ∙ owner.3 in
-          let due : count_by (is_due y region) s.callers ≡ one (is_due y region (caller.Agent owner.0)) =
-          count_alone (is_due y region) s.callers some.0 (caller.Agent owner.0) holder.at
-          (λ d z apart there.
-          subst (λ (r : ℕ). is_due y r z ≡ false) owner.3
-          (others_raised g s.words s.callers some.0 d owner.0 owner.1 y z stands.locks low holder apart there (made_at_place g s.first s.words s.callers d z stands.shape there))) in
-          let one_due : one (is_due y region (caller.Agent owner.0)) ≡ 1 = ap one owner.4 in
-          let number : lock_number g.setup (region * size_bytes y) ≡ lock_number g.setup pa =
-          number_by_region g.setup y (region * size_bytes y) pa (mul-div_cancel region (size_some y) ∙ sym region_is) in
-          inr (
-            omega (arith, stands.generations y region within, due, one_due),
-            ap (lock_bit s.words) number ∙ holder_bit s.words s.callers some.0 (lock_number g.setup pa) (caller.Agent owner.0) holder.at stands.locks low (holder_has g s.callers some.0 owner.0 owner.1 holder),
-          ))
+          (let n = lock_number g.setup (region * size_bytes y) in
+          let in_block = placed_at g s some.0 some.1 stands some.2 in
+          let has : holds n some.1 ≡ true = elim (in_block.due y region) [ inl none ↦ absurd (let both : true ≡ false = sym some.3 ∙ none in cc) | inr has ↦ has ] in
+          let due : count_by (is_due y region) s.callers ≡ 1 = due_alone (record { stands = stands; at = some.2; has = has }) y region refl ∙ ap one some.3 in
+          inr (omega (arith, stands.generations y region within, due), holder_bit s.words s.callers some.0 n some.1 some.2 stands.locks (in_block.low n has) has))
     ]
 
 -- ---- locks at the end
@@ -204,7 +128,7 @@ pub locks_ended : (g : GeometryData) (s : Scene) (tasks : List (List Task)) → 
 locks_ended g s tasks stands have ended n below =
     stands.locks n below
     ∙ count_none (holds n) s.callers
-    (λ d x there. holds_none n g x (made_at_place g s.first s.words s.callers d x stands.shape there) (all_answered tasks s.callers d x have there ended))
+    (λ d x there. holds_none n g x (made_at_place g s d x stands there) (all_answered tasks s.callers d x have there ended))
 
 -- ---- causes
 
@@ -314,10 +238,10 @@ ends_of s c None made at done =
 pub is_trace : (s : Scenario) → InvariantFor (first_map s) (opening_of s) [] → AreMade (geometry_of s) (played s).callers
     → IsTrace (geometry_of s) s.scripts (first_words s) (turns_in s) (played_trace s) (map caller_answers (played s).callers) (played s).words
 is_trace s opening made = record {
-  callers = subst (λ (n : ℕ). All (λ (e : TraceEvent). e.caller < n) (played_trace s)) (length-map s.scripts (caller_of (geometry_of s))) (trace_known (opening_of s) (turns_in s));
+  callers = subst (λ (n : ℕ). All (λ (e : TraceEvent). e.caller < n) (played_trace s)) (length-map s.scripts (caller_of (geometry_of s))) (turns_shape (opening_of s) (turns_in s)).2;
   turned = turns_taken _ (opening_of s) (turns_in s) (λ c o at done. ends_of s c o made at done);
-  answered = trace_answered (first_map s) (opening_of s) [] (turns_in s) opening;
-  left = trace_words (opening_of s) (turns_in s);
+  answered = (trace_answers (opening_of s) (turns_in s) (first_map s, [], opening)).1;
+  left = (trace_answers (opening_of s) (turns_in s) (first_map s, [], opening)).0;
   follows = λ c own answers given answered.
       let count : length s.scripts ≡ length (played s).callers = sym (length-map s.scripts tasks_of) ∙ many_tasks s in
       elim (slice_get_cases (played s).callers c).1 [
@@ -346,18 +270,16 @@ pub is_run : (s : Scenario) → InvariantFor (first_map s) (opening_of s) [] →
 is_run s opening =
     let stands_so = turns_hold (first_map s) (opening_of s) [] (turns_in s) opening in
     let end : Scene = scene_of (first_map s) (played s) (history_of (played_trace s)) in
-    let stands : HoldsIn (geometry_of s) end =
-    subst (λ (h : List Entry). HoldsIn (geometry_of s) (scene_of (first_map s) (played s) h)) (sym (trace_entries (opening_of s) (turns_in s)))
-    (subst (λ (g : GeometryData). HoldsIn g (scene_of (first_map s) (played s) (entries_in (opening_of s) (turns_in s)))) (turns_geometry (opening_of s) (turns_in s)) stands_so) in
+    let stands : HoldsIn (geometry_of s) end = subst (λ (g : GeometryData). HoldsIn g end) (turns_shape (opening_of s) (turns_in s)).0 stands_so in
     let made : AreMade (geometry_of s) (played s).callers = λ c a at.
-    (let is = made_at_place (geometry_of s) (first_map s) (played s).words (played s).callers c (caller.Agent a) stands.shape at in
+    (let is = made_at_place (geometry_of s) end c (caller.Agent a) stands at in
     (is.0, is.1, events_of c (played_trace s), played_walked s c a opening at)) in
     record {
-      geometry = turns_geometry (opening_of s) (turns_in s);
+      geometry = (turns_shape (opening_of s) (turns_in s)).0;
       turns = is_trace s opening made;
       fits = fits_history (geometry_of s) end (map tasks_of s.scripts) stands (have_tasks s) made (many_tasks s);
       locks = λ n low.
-          let counts = trace_counts n (first_map s) (opening_of s) [] (turns_in s) low opening in
+          let counts = trace_counts n (opening_of s) (turns_in s) low (first_map s, [], opening) in
           let free = opening.locks n low in
           let none = opening_holds n (geometry_of s) s.scripts in
           omega (arith, counts, free, none);
@@ -366,3 +288,7 @@ is_run s opening =
 pub run_left : {E : Type 0} (s : Scenario) (r : Result Outcome E) → InvariantFor (first_map s) (opening_of s) [] → IfOk r (λ o. o ≡ outcome_of (played s)) → IfOk r (λ o. IsRun s o (played_trace s))
 run_left s (Ok o) opening left = subst (λ (x : Outcome). IsRun s x (played_trace s)) (sym left) (is_run s opening)
 run_left s (Err e) opening left = tt
+
+pub run_size : {E : Type 0} (s : Scenario) (r : Result Outcome E) → IfOk r (λ o. IsRun s o (played_trace s)) → IfOk r (λ o. length o.words ≡ word_count o.geometry)
+run_size s (Ok o) run = run.fits.size ∙ ap word_count (sym run.geometry)
+run_size s (Err e) run = tt

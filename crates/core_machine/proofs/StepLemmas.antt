@@ -1,42 +1,29 @@
 -- A step of one caller keeps the facts of the core: what it has to show of the word that it writes, of its own state and
 -- of the entry that it makes.
-use Rattle.std.proofs.Common.{◌≡◌, ◌≢◌, ℕ, ◌+◌, ◌*◌, ◌<◌, ◌⊎◌, ◌++◌, ◌∷◌, [], List, true, false, ◌&&◌, eqb, Option, Some, None, set, refl, sym, ap, ◌∙◌, subst, arith, inl, inr, append-nil}
+use Rattle.std.proofs.Common.{◌≡◌, ◌≢◌, ℕ, ◌+◌, ◌*◌, ◌<◌, ◌⊎◌, ◌++◌, ◌∷◌, [], List, map, true, false, ◌&&◌, eqb, Option, Some, None, set, refl, sym, ap, ◌∙◌, subst, arith, inl, inr, append-nil}
 use Rattle.std.specs.Prelude.{slice_get, IfSome}
 use Rattle.std.proofs.lemmas.Bool.{cases_Bool, eqb-true, eq-eqb}
+use Rattle.std.specs.Option.{option_map}
+use Rattle.std.proofs.lemmas.Option.{slice_get-map}
+use Rattle.std.proofs.lemmas.List.{get_or-set_other, map-set}
 use Rattle.std.proofs.lemmas.List.Elements.{All-set}
-use Rattle.gpi_values.specs.declared.gpi.Gpi.{Gpi}
-use Rattle.gpt_descriptors.specs.declared.size.Size.{Size}
-use Rattle.gpt_descriptors.specs.Sizes.{granule_bytes}
-use Rattle.gpt_descriptors.specs.Places.{GeometryData, WordName, blocks_in_region}
-use Rattle.bit_locks.specs.Locks.{lock_bit}
-use Rattle.history.specs.declared.call.Task.{Task}
-use Rattle.history.specs.declared.call.Answer.{Answer}
-use Rattle.history.specs.declared.entry.Entry.{Entry}
-use Rattle.history.specs.Entries.{caller_in, call_in, granule_in}
-use Rattle.history.specs.States.{State, start, state_after}
+use Rattle.core_machine.proofs.Names.{Gpi, Size, granule_bytes, GeometryData, WordName, blocks_in_region, canonical_word, lock_bit, Holder, Whole, apart_by, Task, Answer, Entry, caller_in, call_in, granule_in, State, start, after_entry, state_after, is_by, region_of, count_of, Caller, holder_by, holds, open_by, Sees, is_due, known_answers, caller_tasks, IsMade, AreAllowed, HoldsIn, Scene, state_in, map_in, scene_after, map_at, IsCounted, generation_word, is_on_block}
+use Rattle.core_machine.proofs.Names.gpi
+use Rattle.core_machine.proofs.Names.entry
+use Rattle.table_meaning.proofs.EquationLemmas.{whole_turns, still_words}
 use Rattle.history.specs.Legality.{StateAllows}
-use Rattle.history.specs.Counts.{is_by, is_change, is_completion, region_of, count_of}
+use Rattle.history.specs.Counts.{is_change, is_completion}
 use Rattle.history.proofs.HistoryLemmas.{state_after-append}
-use Rattle.core_machine.specs.declared.caller.Caller.{Caller}
 use Rattle.core_machine.specs.InnerCallers.{own_of, call_of}
-use Rattle.core_machine.specs.InnerTables.{AreTables}
-use Rattle.core_machine.specs.InnerLocks.{holds}
-use Rattle.core_machine.specs.InnerOpened.{OpenAreHeld}
-use Rattle.core_machine.specs.InnerSeen.{Sees}
-use Rattle.core_machine.specs.InnerRaised.{is_due}
-use Rattle.core_machine.specs.InnerAlone.{IsAlone}
-use Rattle.core_machine.specs.InnerCounted.{known_answers, caller_tasks}
-use Rattle.core_machine.specs.InnerHistory.{AreAllowed}
-use Rattle.core_machine.specs.InnerInvariant.{IsMade}
-use Rattle.core_machine.specs.InnerScene.{Scene, state_in, HoldsIn, scene_after}
-use Rattle.core_machine.specs.Scenarios.{map_at}
-use Rattle.core_machine.specs.Facts.{IsCounted, AreUndisturbed, generation_word, is_on_block}
-use Rattle.core_machine.proofs.ListLemmas.{one, each_set}
+use Rattle.core_machine.specs.InnerInvariant.{AreTables, OpenAreHeld, IsAlone}
+use Rattle.core_machine.specs.Facts.{AreUndisturbed}
+use Rattle.core_machine.proofs.ListLemmas.{one, count_set, each_set}
 use Rattle.core_machine.proofs.LockLemmas.{locks_keep}
-use Rattle.core_machine.proofs.OthersLemmas.{one_holder}
-use Rattle.core_machine.proofs.WordLemmas.{Writes, is_idle, idle_left}
+use Rattle.core_machine.proofs.AddressLemmas.{lock_of}
+use Rattle.core_machine.proofs.CallerLemmas.{held_once, others_closed, placed_at}
+use Rattle.core_machine.proofs.OpenedLemmas.{opened_after, opened_stays, opened_changes}
+use Rattle.core_machine.proofs.WordLemmas.{Writes, IsApart, block_left, plain_apart, is_generation, is_level1, is_idle, generations_left, words_left, idle_left}
 use Rattle.core_machine.proofs.ToldLemmas.{IsAdded, history_keeps}
-use Rattle.core_machine.proofs.RaisedLemmas.{generations_keep}
 use Rattle.core_machine.proofs.AloneLemmas.{undisturbed_more, alone_own, alone_other}
 use Rattle.core_machine.proofs.CountedLemmas.{counted_more, count_more}
 
@@ -51,10 +38,7 @@ abbrev pub added_to : GeometryData → Size → ℕ → Option Entry → ℕ
 added_to g y region None = 0
 added_to g y region (Some e) = one (is_change e && eqb (region_of (granule_bytes g.setup) y (granule_in e)) region)
 
--- the map before and after it
-abbrev pub map_in : Scene → ℕ → Gpi
-map_in s = map_at (state_in s).map
-
+-- the map after it
 abbrev pub map_next : Scene → Option Entry → ℕ → Gpi
 map_next s o = map_at (state_after (state_in s) (list_of o)).map
 
@@ -63,28 +47,34 @@ pub record IsEntryOf (g : GeometryData) (s : Scene) (c : ℕ) (me x : Caller) (e
   pub caller : caller_in e ≡ c
   pub call : call_in e ≡ call_of me
   pub goes_on : call_of x ≡ call_of me
-  pub block : (m : ℕ) → is_on_block g.setup m e ≡ true → (m < 128) × (holds m me ≡ true)
+  pub block : (m : ℕ) → is_on_block g.setup m e ≡ true → holds m me ≡ true
   pub allowed : StateAllows (state_in s) e
+
+-- what it makes of the caller's own changes that aren't complete
+abbrev pub opened_with : Option Entry → List (ℕ × Gpi) → List (ℕ × Gpi)
+opened_with None pairs = pairs
+opened_with (Some e) pairs = opened_after e pairs
 
 -- ---- a step
 
 -- Caller c, which was `me`, becomes x. It wrote this word, if it wrote one, and made this entry, if it made one.
 pub record Step (g : GeometryData) (s : Scene) (c : ℕ) (me x : Caller) (n : Option WordName) (after : List ℕ) (o : Option Entry) : Type 0 where
+  pub stands : HoldsIn g s
   pub at : slice_get s.callers c ≡ Some me
   pub made : IsMade g x
   pub writes : Writes g s.words n after
+  pub apart : (m : ℕ) → holds m me ≡ false → IsApart g m n
+  pub idle : is_idle n ≡ false
   pub entry : IfSome o (IsEntryOf g s c me x)
   pub tables : AreTables g after (set s.callers c x) (map_next s o)
-  pub opened : OpenAreHeld (state_after (state_in s) (list_of o)).opened (set s.callers c x)
+  pub opened : open_by x ≡ opened_with o (open_by me)
   pub locks : (m : ℕ) → m < 128 → lock_bit after m + one (holds m me) ≡ lock_bit s.words m + one (holds m x)
   pub seen : Sees (map_next s o) after x
-  pub others : (d : ℕ) (y : Caller) → d ≢ c → slice_get s.callers d ≡ Some y → Sees (map_next s o) after y
   pub raised : (y : Size) (region : ℕ) → region < blocks_in_region y * g.setup.gigabytes
       → generation_word g after y region + one (is_due y region x) ≡ generation_word g s.words y region + one (is_due y region me) + added_to g y region o
   pub alone : (m : ℕ) → holds m x ≡ true → IsAlone g.setup m c (call_of x) s.history
   pub counted : (k : ℕ) (u : Task) (given : Answer) → slice_get (caller_tasks x) k ≡ Some u → slice_get (known_answers x) k ≡ Some given → IsCounted g c k u given (s.history ++ list_of o)
   pub own : own_of c x ≡ own_of c me ++ list_of o
-  pub idle : is_idle n ≡ false
 
 -- what holds of the history holds with the entry, if there is none or it is shown with one
 grown : (P : List Entry → Type 0) (Q : Entry → Type 0) (h : List Entry) (o : Option Entry) → IfSome o Q → P h → ((e : Entry) → Q e → P (h ++ e ∷ [])) → P (h ++ list_of o)
@@ -123,45 +113,148 @@ counted_grown g s c d k me x u given o entry apart counted =
     grown (IsCounted g d k u given) (IsEntryOf g s c me x) s.history o entry counted
     (λ e fits. counted_more g d k u given s.history e counted (is_by_other c d (call_of me) k e fits.caller fits.call apart))
 
--- another holder's lock is not that of the entry's block
-off_block : (g : GeometryData) (s : Scene) (c d m : ℕ) (me x y : Caller) (e : Entry) → HoldsIn g s → IsEntryOf g s c me x e → slice_get s.callers c ≡ Some me → d ≢ c → slice_get s.callers d ≡ Some y → holds m y ≡ true → is_on_block g.setup m e ≡ false
-off_block g s c d m me x y e stands fits at apart there has =
-    elim (cases_Bool (is_on_block g.setup m e)) [
-      | inr off ↦ off
-      | inl on ↦ absurd (let mine = fits.block m on in apart (one_holder s.words s.callers c d m me y stands.locks mine.0 at there mine.1 has))
+-- ---- what the entry leaves
+
+-- a look and a refusal leave the state; another entry is on the block of its granule
+entry_block : (g : GeometryData) (e : Entry) → ((s : State) → after_entry s e ≡ s) ⊎ (is_on_block g.setup (lock_of g.setup (granule_in e)) e ≡ true)
+entry_block g (entry.Refused c k granule found) = inl (λ s. refl)
+entry_block g (entry.Changed c k granule from to) = inr (eq-eqb _ _ refl)
+entry_block g (entry.Settled c k granule) = inr (eq-eqb _ _ refl)
+entry_block g (entry.Looked c k granule space gpi allowed) = inl (λ s. refl)
+
+pub map_elsewhere : (s : State) (e : Entry) (k : ℕ) → k ≢ granule_in e → map_at s.map k ≡ map_at (after_entry s e).map k
+map_elsewhere s (entry.Changed c j granule from to) k other = sym (get_or-set_other s.map granule k to gpi.Any other)
+map_elsewhere s (entry.Refused c j granule found) k other = refl
+map_elsewhere s (entry.Settled c j granule) k other = refl
+map_elsewhere s (entry.Looked c j granule space gpi allowed) k other = refl
+
+-- the map in blocks whose lock the caller doesn't hold
+map_left : (g : GeometryData) (s : Scene) (c : ℕ) (me x : Caller) (o : Option Entry) (k : ℕ) → IfSome o (IsEntryOf g s c me x) → holds (lock_of g.setup k) me ≡ false → map_in s k ≡ map_next s o k
+map_left g s c me x None k entry free = refl
+map_left g s c me x (Some e) k entry free =
+    elim (entry_block g e) [
+      | inl same ↦ ap (λ (st : State). map_at st.map k) (sym (same (state_in s)))
+      | inr on ↦ map_elsewhere (state_in s) e k (λ here. absurd (let both : true ≡ false = sym (entry.block _ on) ∙ ap (λ (j : ℕ). holds (lock_of g.setup j) me) (sym here) ∙ free in cc))
     ]
 
-pub step_keeps : (g : GeometryData) (s : Scene) (c : ℕ) (me x : Caller) (n : Option WordName) (after : List ℕ) (o : Option Entry) → HoldsIn g s → Step g s c me x n after o → HoldsIn g (scene_after s c x after (list_of o))
-step_keeps g s c me x n after o stands step =
-    let h = s.history in
-    let same : state_after (start s.first) (h ++ list_of o) ≡ state_after (state_in s) (list_of o) = state_after-append (start s.first) h (list_of o) in
-    let added = added_of g s c me x o step.entry in
+opened_next : (g : GeometryData) (s : Scene) (c : ℕ) (me x : Caller) (o : Option Entry) → HoldsIn g s → slice_get s.callers c ≡ Some me → IfSome o (IsEntryOf g s c me x) → open_by x ≡ opened_with o (open_by me)
+    → OpenAreHeld (state_after (state_in s) (list_of o)).opened (set s.callers c x)
+opened_next g s c me x None stands at entry own = opened_stays (state_in s).opened s.callers c me x at stands.opened own
+opened_next g s c me x (Some e) stands at entry own =
+    elim (entry_block g e) [
+      | inl same ↦
+          subst (λ (st : State). OpenAreHeld st.opened (set s.callers c x)) (sym (same (state_in s)))
+          (opened_stays (state_in s).opened s.callers c me x at stands.opened (own ∙ ap (λ (st : State). st.opened) (same (record { map = []; opened = open_by me }))))
+      | inr on ↦ opened_changes (state_in s) s.callers c me x e at stands.opened own (others_closed (record { stands = stands; at = at; has = entry.block _ on }) (granule_in e) refl)
+    ]
+
+-- ---- what a step leaves of the others
+
+module _ {g : GeometryData} {s : Scene} {c : ℕ} {me x : Caller} {n : Option WordName} {after : List ℕ} {o : Option Entry} (step : Step g s c me x n after o) where
+  -- a lock that another holds
+  not_mine : (d m : ℕ) (y : Caller) → d ≢ c → slice_get s.callers d ≡ Some y → holds m y ≡ true → holds m me ≡ false
+  not_mine d m y apart there has =
+      elim (cases_Bool (holds m me)) [ inl mine ↦ absurd (held_once (record { stands = step.stands; at = step.at; has = mine }) d y apart there has) | inr free ↦ free ]
+
+  others_see : (d : ℕ) (y : Caller) → d ≢ c → slice_get s.callers d ≡ Some y → Sees (map_next s o) after y
+  others_see d y apart there =
+      (placed_at g s d y step.stands there).sees (map_in s) (map_next s o) s.words after
+      (λ m has.
+      let free = not_mine d m y apart there has in
+      block_left m (map_in s) (map_next s o) step.writes (step.apart m free) (λ k lock. map_left g s c me x o k step.entry (subst (λ (j : ℕ). holds j me ≡ false) (sym lock) free)))
+      (step.stands.seen d y there)
+
+  others_alone : (d m : ℕ) (y : Caller) → d ≢ c → slice_get s.callers d ≡ Some y → holds m y ≡ true → IsAlone g.setup m d (call_of y) (s.history ++ list_of o)
+  others_alone d m y apart there has =
+      grown (IsAlone g.setup m d (call_of y)) (IsEntryOf g s c me x) s.history o step.entry (step.stands.alone d m y there has)
+      (λ e fits. alone_other g.setup m d (call_of y) s.history e (step.stands.alone d m y there has)
+      (elim (cases_Bool (is_on_block g.setup m e)) [ inl on ↦ absurd (let both : true ≡ false = sym (fits.block m on) ∙ not_mine d m y apart there has in cc) | inr off ↦ off ]))
+
+  pub step_keeps : HoldsIn g (scene_after s c x after (list_of o))
+  step_keeps =
+      let h = s.history in
+      let stands = step.stands in
+      let same : state_after (start s.first) (h ++ list_of o) ≡ state_after (state_in s) (list_of o) = state_after-append (start s.first) h (list_of o) in
+      let added = added_of g s c me x o step.entry in
+      record {
+        shape = record {
+          geometry = stands.shape.geometry;
+          size = step.writes.size ∙ stands.shape.size;
+          granules = stands.shape.granules;
+          made = All-set (IsMade g) s.callers c x step.made stands.shape.made;
+        };
+        tables = subst (λ (st : State). AreTables g after (set s.callers c x) (map_at st.map)) (sym same) step.tables;
+        opened = subst (λ (st : State). OpenAreHeld st.opened (set s.callers c x)) (sym same) (opened_next g s c me x o stands step.at step.entry step.opened);
+        locks = locks_keep s.words after s.callers c me x step.at stands.locks step.locks;
+        seen = subst (λ (st : State). (d : ℕ) (y : Caller) → slice_get (set s.callers c x) d ≡ Some y → Sees (map_at st.map) after y) (sym same)
+            (each_set (λ (d : ℕ) (y : Caller). Sees (map_next s o) after y) s.callers c x step.seen others_see);
+        generations = λ y region within. omega (arith, stands.generations y region within, step.raised y region within, count_grown g y region h o, count_set (is_due y region) s.callers c me x step.at);
+        undisturbed = grown (AreUndisturbed g.setup) (IsEntryOf g s c me x) h o step.entry stands.undisturbed
+            (λ e fits. undisturbed_more g.setup h e c (call_of me) stands.undisturbed (λ m on. stands.alone c m me step.at (fits.block m on)) (is_by_own c (call_of me) e fits.caller fits.call));
+        alone = λ d m y there. each_set (λ (d : ℕ) (y : Caller). holds m y ≡ true → IsAlone g.setup m d (call_of y) (h ++ list_of o)) s.callers c x
+            (λ has. grown (IsAlone g.setup m c (call_of x)) (IsEntryOf g s c me x) h o step.entry (step.alone m has)
+            (λ e fits. alone_own g.setup m c (call_of x) h e (step.alone m has) (is_by_own c (call_of x) e fits.caller (fits.call ∙ sym fits.goes_on))))
+            (λ d y apart there has. others_alone d m y apart there has)
+            d y there;
+        counted = λ d k y u given there. each_set (λ (d : ℕ) (y : Caller). slice_get (caller_tasks y) k ≡ Some u → slice_get (known_answers y) k ≡ Some given → IsCounted g d k u given (h ++ list_of o)) s.callers c x
+            (λ asked answered. step.counted k u given asked answered)
+            (λ d y apart there asked answered. counted_grown g s c d k me x u given o step.entry (inl apart) (stands.counted d k y u given there asked answered))
+            d y there;
+        history = history_keeps s.first s.callers h c (call_of me) me x (list_of o) step.at stands.history added.0 step.own added.1;
+        idle = idle_left step.writes step.idle stands.idle;
+      }
+
+-- ---- a step without an entry that writes neither a generation nor an L1 word
+
+-- a caller at which the words are whole before and after it
+tables_whole : {g : GeometryData} {s : Scene} (c : ℕ) {me : Caller} (x : Caller) {n : Option WordName} {after : List ℕ} → HoldsIn g s → slice_get s.callers c ≡ Some me → Writes g s.words n after → is_level1 n ≡ false
+    → (holder_by me).step ≡ Whole → (holder_by x).step ≡ Whole → AreTables g after (set s.callers c x) (map_in s)
+tables_whole {g = g} {s = s} c {me = me} x stands at writes unlike before whole =
+    let there : slice_get (map holder_by s.callers) c ≡ Some (holder_by me) = slice_get-map holder_by s.callers c ∙ ap (option_map holder_by) at in
     record {
-      shape = record {
-        geometry = stands.shape.geometry;
-        size = step.writes.size ∙ stands.shape.size;
-        granules = stands.shape.granules;
-        made = All-set (IsMade g) s.callers c x step.made stands.shape.made;
-      };
-      tables = subst (λ (st : State). AreTables g after (set s.callers c x) (map_at st.map)) (sym same) step.tables;
-      opened = subst (λ (st : State). OpenAreHeld st.opened (set s.callers c x)) (sym same) step.opened;
-      locks = locks_keep s.words after s.callers c me x step.at stands.locks step.locks;
-      seen = subst (λ (st : State). (d : ℕ) (y : Caller) → slice_get (set s.callers c x) d ≡ Some y → Sees (map_at st.map) after y) (sym same)
-          (each_set (λ (d : ℕ) (y : Caller). Sees (map_next s o) after y) s.callers c x step.seen step.others);
-      generations = generations_keep g s.words after s.callers h c me x (list_of o) step.at stands.generations
-          (λ y region within. omega (arith, step.raised y region within, count_grown g y region h o));
-      undisturbed = grown (AreUndisturbed g.setup) (IsEntryOf g s c me x) h o step.entry stands.undisturbed
-          (λ e fits. undisturbed_more g.setup h e c (call_of me) stands.undisturbed (λ m on. stands.alone c m me step.at (fits.block m on).1) (is_by_own c (call_of me) e fits.caller fits.call));
-      alone = λ d m y there. each_set (λ (d : ℕ) (y : Caller). holds m y ≡ true → IsAlone g.setup m d (call_of y) (h ++ list_of o)) s.callers c x
-          (λ has. grown (IsAlone g.setup m c (call_of x)) (IsEntryOf g s c me x) h o step.entry (step.alone m has)
-          (λ e fits. alone_own g.setup m c (call_of x) h e (step.alone m has) (is_by_own c (call_of x) e fits.caller (fits.call ∙ sym fits.goes_on))))
-          (λ d y apart there has. grown (IsAlone g.setup m d (call_of y)) (IsEntryOf g s c me x) h o step.entry (stands.alone d m y there has)
-          (λ e fits. alone_other g.setup m d (call_of y) h e (stands.alone d m y there has) (off_block g s c d m me x y e stands fits step.at apart there has)))
-          d y there;
-      counted = λ d k y u given there. each_set (λ (d : ℕ) (y : Caller). slice_get (caller_tasks y) k ≡ Some u → slice_get (known_answers y) k ≡ Some given → IsCounted g d k u given (h ++ list_of o)) s.callers c x
-          (λ asked answered. step.counted k u given asked answered)
-          (λ d y apart there asked answered. counted_grown g s c d k me x u given o step.entry (inl apart) (stands.counted d k y u given there asked answered))
-          d y there;
-      history = history_keeps s.first s.callers h c (call_of me) me x (list_of o) step.at stands.history added.0 step.own added.1;
-      idle = idle_left step.writes step.idle stands.idle;
+      level1 = words_left writes (map_in s) _ unlike stands.shape.geometry
+          (still_words g (map_in s) (map_in s) (apart_by g.setup (map holder_by s.callers)) (apart_by g.setup (map holder_by (set s.callers c x))) s.words
+          (λ w. ap (λ (o : Option ℕ). canonical_word g.setup (map_in s) o w)
+          (whole_turns g.setup (map holder_by s.callers) c (holder_by me) (holder_by x) w there before whole ∙ ap (λ (all : List Holder). apart_by g.setup all w) (sym (map-set holder_by s.callers c x))))
+          stands.tables.level1);
+      blocks = stands.tables.blocks;
     }
+
+-- It has open and owes what it did.
+pub record Aside (g : GeometryData) (s : Scene) (c : ℕ) (me x : Caller) (n : Option WordName) (after : List ℕ) : Type 0 where
+  pub stands : HoldsIn g s
+  pub at : slice_get s.callers c ≡ Some me
+  pub made : IsMade g x
+  pub writes : Writes g s.words n after
+  pub no_level1 : is_level1 n ≡ false
+  pub no_generation : is_generation n ≡ false
+  pub idle : is_idle n ≡ false
+  pub before : (holder_by me).step ≡ Whole
+  pub whole : (holder_by x).step ≡ Whole
+  pub opened : open_by x ≡ open_by me
+  pub due : (y : Size) (region : ℕ) → is_due y region x ≡ is_due y region me
+  pub locks : (m : ℕ) → m < 128 → lock_bit after m + one (holds m me) ≡ lock_bit s.words m + one (holds m x)
+  pub seen : Sees (map_in s) after x
+  pub alone : (m : ℕ) → holds m x ≡ true → IsAlone g.setup m c (call_of x) s.history
+  pub counted : (k : ℕ) (u : Task) (given : Answer) → slice_get (caller_tasks x) k ≡ Some u → slice_get (known_answers x) k ≡ Some given → IsCounted g c k u given s.history
+  pub own : own_of c x ≡ own_of c me
+
+pub aside_keeps : {g : GeometryData} {s : Scene} {c : ℕ} {me x : Caller} {n : Option WordName} {after : List ℕ} → Aside g s c me x n after → HoldsIn g (scene_after s c x after [])
+aside_keeps {g = g} {s = s} {c = c} {x = x} {n = n} aside =
+    step_keeps {n = n} {o = None} (record {
+      stands = aside.stands;
+      at = aside.at;
+      made = aside.made;
+      writes = aside.writes;
+      apart = λ m free. plain_apart g m n aside.no_generation;
+      idle = aside.idle;
+      entry = tt;
+      tables = tables_whole c x aside.stands aside.at aside.writes aside.no_level1 aside.before aside.whole;
+      opened = aside.opened;
+      locks = aside.locks;
+      seen = aside.seen;
+      raised = λ y region within. rw (generations_left aside.writes aside.no_generation y region within, aside.due y region) (omega arith);
+      alone = aside.alone;
+      counted = λ k u given asked answered. subst (IsCounted g c k u given) (sym (append-nil s.history)) (aside.counted k u given asked answered);
+      own = aside.own ∙ sym (append-nil _);
+    })

@@ -9,19 +9,12 @@ use Rattle.std.proofs.lemmas.Bool.{cases_Bool, eq-eqb}
 use Rattle.std.proofs.lemmas.Option.{slice_get-get_or}
 use Rattle.std.proofs.lemmas.List.{set-get_or}
 use Rattle.std.proofs.lemmas.Nat.Bits.{and_pow, bit_at-lt}
-use Rattle.gpt_descriptors.specs.Places.{GeometryData}
-use Rattle.shared_words.specs.declared.act.Act.{Act}
-use Rattle.shared_words.specs.Acts.{answer_of, after_act}
-use Rattle.bit_locks.specs.Locks.{bit_with, take_act}
-use Rattle.history.specs.declared.call.Task.{Task}
-use Rattle.delegate_ops.specs.declared.stage.Stage.{Stage}
-use Rattle.delegate_ops.specs.declared.stage.Stage.TheVariants as stage
-use Rattle.delegate_ops.specs.Script.{lock_bit_of}
-use Rattle.delegate_ops.specs.InnerAgents.{AgentData, task_of, act_at, next_of, is_held, waits_at, took_at, took_under_way}
-use Rattle.core_machine.specs.declared.caller.Caller.{Caller}
-use Rattle.core_machine.specs.declared.caller.Caller.TheVariants as caller
-use Rattle.core_machine.specs.InnerCallers.{caller_next, caller_took, caller_waits}
-use Rattle.core_machine.specs.InnerMachine.{MachineData, after_turn, after_turns}
+use Rattle.core_machine.proofs.Names.{GeometryData, Act, answer_of, after_act, take_act, Task, Stage, lock_bit_of, AgentData, task_of, next_of, took_at, Caller, caller_next, caller_took, MachineData, after_turn, after_turns}
+use Rattle.core_machine.proofs.Names.stage
+use Rattle.core_machine.proofs.Names.caller
+use Rattle.bit_locks.specs.Locks.{bit_with}
+use Rattle.delegate_ops.specs.InnerAgents.{act_at, is_held, waits_at, took_under_way}
+use Rattle.core_machine.specs.InnerCallers.{caller_waits}
 use Rattle.core_machine.proofs.MachineLemmas.{after_turns-append, replicate_more, range_front}
 
 -- ---- a held lock

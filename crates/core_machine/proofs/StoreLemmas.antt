@@ -11,11 +11,11 @@ use Rattle.delegate_ops.specs.InnerAgents.{AgentData}
 use Rattle.delegate_ops.specs.InnerRuns.{stored_by}
 use Rattle.core_machine.specs.declared.caller.Caller.{Caller}
 use Rattle.core_machine.specs.declared.caller.Caller.TheVariants as caller
-use Rattle.core_machine.specs.InnerCallers.{caller_took, caller_stored, AreNext}
-use Rattle.core_machine.specs.InnerCallerLaws.{IsCallerOf}
-use Rattle.core_machine.specs.InnerInvariant.{IsMade}
-use Rattle.core_machine.specs.InnerMachine.{MachineData, InvariantFor, HasInvariant, KeepsInvariant, after_turn, after_turns, entries_in}
-use Rattle.core_machine.proofs.CallerLaws.{acts_have_places, acts_keep}
+use Rattle.core_machine.specs.InnerCallers.{caller_took, caller_stored, AreNext, IsCallerOf, IsMade}
+use Rattle.core_machine.specs.InnerMachine.{MachineData, InvariantFor, HasInvariant, KeepsInvariant, after_turn, after_turns, trace_of}
+use Rattle.core_machine.specs.Trace.{history_of}
+use Rattle.core_machine.proofs.CallerLaws.{acts_keep}
+use Rattle.core_machine.proofs.LawLemmas.{acts_have_places}
 use Rattle.core_machine.proofs.ListLemmas.{get_set_same}
 use Rattle.core_machine.proofs.MachineLemmas.{after_turns-append, replicate_more, turns_more, turns_hold}
 
@@ -103,5 +103,5 @@ no_turns m n c k so none = so ∙ ap (λ (j : ℕ). after_turns m (replicate j c
 pub turns_on : (m n p : MachineData) (c k j : ℕ) → n ≡ after_turns m (replicate k c) → p ≡ after_turns n (replicate j c) → p ≡ after_turns m (replicate (k + j) c)
 turns_on m n p c k j so turned = turned ∙ turns_more m n (replicate k c) (replicate j c) (replicate (k + j) c) so (sym (replicate-append-replicate k j c))
 
-pub keeps_turns : (m n : MachineData) (turns : List ℕ) → n ≡ after_turns m turns → KeepsInvariant m n (entries_in m turns)
-keeps_turns m n turns so first h holds = subst (λ (k : MachineData). InvariantFor first k (h ++ entries_in m turns)) (sym so) (turns_hold first m h turns holds)
+pub keeps_turns : (m n : MachineData) (turns : List ℕ) → n ≡ after_turns m turns → KeepsInvariant m n (history_of (trace_of m turns))
+keeps_turns m n turns so first h holds = subst (λ (k : MachineData). InvariantFor first k (h ++ history_of (trace_of m turns))) (sym so) (turns_hold first m h turns holds)

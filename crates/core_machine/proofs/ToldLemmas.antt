@@ -1,26 +1,17 @@
 -- The history: what the entries of an act add to it.
-use Rattle.std.proofs.Common.{◌≡◌, ◌≢◌, ℕ, suc, ◌+◌, ◌<◌, ◌⊎◌, ◌++◌, ◌∷◌, [], List, eqb, Option, Some, None, length, set, refl, sym, ap, ◌∙◌, subst, arith, inl, inr, append_assoc, append-nil, drop}
-use Rattle.std.specs.Prelude.{slice_get}
+use Rattle.std.proofs.Common.{◌≡◌, ◌≢◌, ℕ, suc, ◌+◌, ◌<◌, ◌⊎◌, ◌++◌, ◌∷◌, [], List, Bool, true, false, eqb, Option, Some, None, length, set, refl, sym, ap, ◌∙◌, subst, arith, inl, inr, append_assoc, append-nil, drop}
+use Rattle.std.specs.Prelude.{slice_get, if◌then◌else◌}
 use Rattle.std.specs.List.{All}
 use Rattle.std.proofs.lemmas.Option.{slice_get_within}
-use Rattle.std.proofs.lemmas.Bool.{cases_Bool, eq-eqb, ne_eqb}
+use Rattle.std.proofs.lemmas.Bool.{eq-eqb, ne_eqb}
 use Rattle.std.proofs.lemmas.List.{length-set}
 use Rattle.std.proofs.lemmas.List.Elements.{filter-append, All-append, All-nil, All-cons}
-use Rattle.gpi_values.specs.declared.gpi.Gpi.{Gpi}
-use Rattle.gpt_descriptors.specs.Places.{GeometryData}
-use Rattle.history.specs.declared.call.Task.{Task}
-use Rattle.history.specs.declared.call.Task.TheVariants as task
-use Rattle.history.specs.declared.call.Answer.{Answer}
-use Rattle.history.specs.declared.call.Answer.TheVariants as answer
-use Rattle.history.specs.declared.entry.Entry.{Entry}
-use Rattle.history.specs.Entries.{caller_in, call_in}
-use Rattle.history.specs.States.{State, start, after_entry, state_after}
-use Rattle.history.specs.Calls.{entries_by, call_entries, answered_entries}
-use Rattle.delegate_ops.specs.Deciding.{is_unusable, idle_answer}
-use Rattle.delegate_ops.specs.InnerAgents.{answered_first, idle_answers}
-use Rattle.core_machine.specs.declared.caller.Caller.{Caller}
+use Rattle.core_machine.proofs.Names.{Gpi, GeometryData, Task, Answer, Entry, caller_in, call_in, State, start, after_entry, state_after, entries_by, call_entries, answered_entries, idle_answer, idle_answers, Caller, AreAllowed, IsHistoryOf}
+use Rattle.core_machine.proofs.Names.task
+use Rattle.core_machine.proofs.Names.answer
+use Rattle.delegate_ops.specs.Deciding.{is_unusable}
+use Rattle.delegate_ops.specs.InnerAgents.{answered_first}
 use Rattle.core_machine.specs.InnerCallers.{own_of}
-use Rattle.core_machine.specs.InnerHistory.{AreAllowed, IsHistoryOf}
 use Rattle.core_machine.proofs.ListLemmas.{get_set}
 
 -- ---- what an act may add: nothing, or one entry of the call under way
@@ -72,24 +63,23 @@ history_keeps first callers h c k a x made at tells added own allowed = record {
 
 -- ---- the entries of answered calls
 
--- a task without acts has no entries
+inval_is : (b : Bool) (a : Answer) → (if b then Some answer.Inval else None) ≡ Some a → a ≡ answer.Inval
+inval_is true a is = cc
+inval_is false a is = absurd cc
+
+-- the answer of a task without acts
+pub idle_is : (g : GeometryData) (t : Task) (a : Answer) → idle_answer g t ≡ Some a → (a ≡ answer.Inval) ⊎ (a ≡ answer.Unknown)
+idle_is g (task.Delegate pa source) a idle = inl (inval_is (is_unusable g pa) a idle)
+idle_is g (task.Undelegate pa source) a idle = inl (inval_is (is_unusable g pa) a idle)
+idle_is g task.Unknown a idle = inr cc
+idle_is g (task.Look pa space) a idle = inl (inval_is (is_unusable g pa) a idle)
+
+-- it has no entries
 pub idle_quiet : (g : GeometryData) (bytes c k : ℕ) (t : Task) (a : Answer) → idle_answer g t ≡ Some a → call_entries bytes c k t a ≡ []
-idle_quiet g bytes c k (task.Delegate pa source) a idle =
-    elim (cases_Bool (is_unusable g pa)) [
-      | inl bad ↦ subst (λ (b : Answer). call_entries bytes c k (task.Delegate pa source) b ≡ []) (let both = rw bad at idle in let same : answer.Inval ≡ a = cc in same) refl
-      | inr good ↦ absurd (let both = rw good at idle in cc)
-    ]
-idle_quiet g bytes c k (task.Undelegate pa source) a idle =
-    elim (cases_Bool (is_unusable g pa)) [
-      | inl bad ↦ subst (λ (b : Answer). call_entries bytes c k (task.Undelegate pa source) b ≡ []) (let both = rw bad at idle in let same : answer.Inval ≡ a = cc in same) refl
-      | inr good ↦ absurd (let both = rw good at idle in cc)
-    ]
+idle_quiet g bytes c k (task.Delegate pa source) a idle = ap (call_entries bytes c k (task.Delegate pa source)) (inval_is (is_unusable g pa) a idle)
+idle_quiet g bytes c k (task.Undelegate pa source) a idle = ap (call_entries bytes c k (task.Undelegate pa source)) (inval_is (is_unusable g pa) a idle)
 idle_quiet g bytes c k task.Unknown a idle = refl
-idle_quiet g bytes c k (task.Look pa space) a idle =
-    elim (cases_Bool (is_unusable g pa)) [
-      | inl bad ↦ subst (λ (b : Answer). call_entries bytes c k (task.Look pa space) b ≡ []) (let both = rw bad at idle in let same : answer.Inval ≡ a = cc in same) refl
-      | inr good ↦ absurd (let both = rw good at idle in cc)
-    ]
+idle_quiet g bytes c k (task.Look pa space) a idle = ap (call_entries bytes c k (task.Look pa space)) (inval_is (is_unusable g pa) a idle)
 
 idle_first : (g : GeometryData) (bytes c k : ℕ) (t : Task) (tasks : List Task) (o : Option Answer) → idle_answer g t ≡ o → answered_entries bytes c (k + 1) tasks (idle_answers g tasks) ≡ []
     → answered_entries bytes c k (t ∷ tasks) (answered_first o (idle_answers g tasks)) ≡ []

@@ -1,29 +1,20 @@
 -- What a machine of running words needs to know of callers, beside the law of one act: over plain
 -- data, with no history.
-use Rattle.std.specs.Prelude.{◌≡◌, ◌≢◌, ℕ, ◌<◌, true, false, is_some, List, slice_get, Option, Some, None}
+use Rattle.std.specs.Prelude.{◌≡◌, ◌≢◌, ℕ, ◌<◌, true, false, is_some, slice_get, Some}
 use Rattle.gpt_descriptors.specs.Places.{GeometryData, word_count}
 use Rattle.shared_words.specs.declared.act.Act.{Act}
 use Rattle.shared_words.specs.Acts.{place_in}
 use Rattle.bit_locks.specs.Locks.{lock_number, lock_bit}
 use Rattle.history.specs.declared.call.Task.{Task}
-use Rattle.delegate_ops.specs.declared.stage.Stage.TheVariants as stage
+use Rattle.delegate_ops.specs.InnerStages as stage
 use Rattle.delegate_ops.specs.Deciding.{address_of}
 use Rattle.delegate_ops.specs.InnerAgents.{AgentData, IsAgent, task_of, has_ended}
 use Rattle.core_machine.specs.declared.caller.Caller.{Caller}
 use Rattle.core_machine.specs.declared.caller.Caller.TheVariants as caller
-use Rattle.core_machine.specs.InnerCallers.{caller_next, caller_took}
-use Rattle.core_machine.specs.InnerLocks.{is_inside}
-use Rattle.core_machine.specs.InnerScene.{Scene, HoldsIn}
-
--- a caller that was made with this geometry
-abbrev pub IsCallerOf : GeometryData → Caller → Type 0
-IsCallerOf g (caller.Agent a) = (a.geometry ≡ g) × IsAgent a
-IsCallerOf g (caller.Cpu looks) = Unit {0}
-
--- the tasks of an agent
-abbrev pub agent_tasks : Caller → Option (List Task)
-agent_tasks (caller.Agent a) = Some a.tasks
-agent_tasks (caller.Cpu looks) = None
+use Rattle.core_machine.specs.InnerAgentCaller.{is_inside}
+use Rattle.core_machine.specs.InnerCallers.{IsCallerOf, agent_tasks, caller_next, caller_took}
+use Rattle.core_machine.specs.InnerScene.{Scene}
+use Rattle.core_machine.specs.InnerInvariant.{HoldsIn}
 
 -- the place of a caller's next act is one of the shared words, by how the caller was made alone
 abbrev pub ActsHavePlaces : Type 0

@@ -1,56 +1,125 @@
--- The facts that hold between any two acts.
-use Rattle.std.specs.Prelude.{◌≡◌, ℕ, ◌<◌, List, length, slice_get, slice_index, Some}
-use Rattle.std.specs.List.{All}
+-- The facts that hold between any two acts, each over what it reads.
+use Rattle.std.specs.Prelude.{◌≡◌, ℕ, ◌+◌, ◌*◌, ◌<◌, true, false, ◌==◌, List, [], ◌∷◌, ◌++◌, length, map, count_by, slice_get, slice_index, Some}
+use Rattle.std.specs.List.{All, filter, flat_map, list_any}
 use Rattle.gpi_values.specs.declared.gpi.Gpi.{Gpi}
-use Rattle.gpt_descriptors.specs.Sizes.{space_granules}
-use Rattle.gpt_descriptors.specs.Places.{GeometryData, IsGeometry, Duty, Line, place_of, l1_words, word_count}
+use Rattle.gpt_descriptors.specs.declared.size.Size.{Size}
+use Rattle.gpt_descriptors.specs.Sizes.{SetupData, granule_bytes, space_granules}
+use Rattle.gpt_descriptors.specs.Places.{GeometryData, IsGeometry, Duty, Level1, Line, place_of, l0_words, l1_words, word_count, blocks_in_region}
+use Rattle.bit_locks.specs.Locks.{lock_bit}
+use Rattle.table_meaning.specs.Meaning.{BlocksMean}
+use Rattle.table_meaning.specs.Equation.{apart_by, AreWords}
+use Rattle.history.specs.declared.call.Task.{Task}
+use Rattle.history.specs.declared.call.Answer.{Answer}
 use Rattle.history.specs.declared.entry.Entry.{Entry}
-use Rattle.history.specs.States.{start, state_after}
-use Rattle.delegate_ops.specs.InnerAgents.{IsAgent}
-use Rattle.delegate_ops.specs.Script.{CallEvent}
+use Rattle.history.specs.Entries.{caller_in}
+use Rattle.history.specs.States.{State, start, after_entry}
+use Rattle.history.specs.Legality.{StateAllows}
+use Rattle.history.specs.Calls.{entries_by}
+use Rattle.history.specs.Counts.{is_by, count_of}
 use Rattle.core_machine.specs.declared.caller.Caller.{Caller}
-use Rattle.core_machine.specs.declared.caller.Caller.TheVariants as caller
-use Rattle.core_machine.specs.InnerTables.{AreTables}
-use Rattle.core_machine.specs.InnerLocks.{LocksAreHeld}
-use Rattle.core_machine.specs.InnerOpened.{OpenAreHeld}
-use Rattle.core_machine.specs.InnerSeen.{Sees}
-use Rattle.core_machine.specs.InnerRaised.{GenerationsCount}
-use Rattle.core_machine.specs.InnerAlone.{HoldersAreAlone}
-use Rattle.core_machine.specs.InnerCounted.{AnswersCount}
-use Rattle.core_machine.specs.InnerHistory.{IsHistoryOf}
-use Rattle.core_machine.specs.Facts.{map_after, AreUndisturbed}
-use Rattle.delegate_ops.specs.InnerScript.{HasWalked}
+use Rattle.core_machine.specs.Facts.{AreUndisturbed, IsCounted, generation_word, is_on_block}
+use Rattle.core_machine.specs.InnerCallers.{IsMade, call_of, caller_tasks, known_answers, own_of, holds, open_by, is_due, holder_by, Sees}
+use Rattle.core_machine.specs.InnerScene.{Scene, state_in, map_in}
 
--- the caller was made with this geometry, and has come to its stage by some events of its script
-abbrev pub IsMade : GeometryData → Caller → Type 0
-IsMade g (caller.Agent a) =
-    (a.geometry ≡ g) × IsAgent a × (c : ℕ) × (events : List CallEvent) × HasWalked c a events
-IsMade g (caller.Cpu looks) = Unit {0}
-
-pub record HasShape (g : GeometryData) (first : List Gpi) (words : List ℕ)
-    (callers : List Caller) : Type 0 where
+pub record HasShape (g : GeometryData) (s : Scene) : Type 0 where
   pub geometry : IsGeometry g
-  pub size : length words ≡ word_count g
-  pub granules : length first ≡ space_granules g.setup
-  pub made : All (IsMade g) callers
+  pub size : length s.words ≡ word_count g
+  pub granules : length s.first ≡ space_granules g.setup
+  pub made : All (IsMade g) s.callers
+
+-- ---- tables
+
+-- the L1 word with this number among all L1 words
+abbrev pub table_word : GeometryData → List ℕ → ℕ → ℕ
+table_word g words i = slice_index words (place_of g (Level1 i))
+
+-- Each L1 word is the canonical word of the map, apart from a granule or not by where the callers
+-- are, and each granule below an L0 block has the block's GPI in the map.
+pub record AreTables (g : GeometryData) (words : List ℕ) (callers : List Caller)
+    (m : ℕ → Gpi) : Type 0 where
+  pub level1 : AreWords g m (apart_by g.setup (map holder_by callers)) words
+  pub blocks : BlocksMean g.setup (l0_words g) m
+
+-- ---- locks
+
+-- A lock bit is the number of its holders: it is clear where there is none, and there is never a
+-- second one.
+abbrev pub LocksAreHeld : List ℕ → List Caller → Type 0
+LocksAreHeld words callers = (n : ℕ) → n < 128 → lock_bit words n ≡ count_by (holds n) callers
+
+-- ---- changes that aren't complete
+
+-- the pairs of a granule
+abbrev pub pairs_of : ℕ → List (ℕ × Gpi) → List (ℕ × Gpi)
+pairs_of granule pairs = filter (λ pair. pair.0 == granule) pairs
+
+-- Of each granule, what is open is what the callers hold open.
+abbrev pub OpenAreHeld : List (ℕ × Gpi) → List Caller → Type 0
+OpenAreHeld opened callers =
+    (granule : ℕ) → pairs_of granule opened ≡ pairs_of granule (flat_map open_by callers)
+
+-- Each generation is the count of its region, less the changes whose callers haven't raised it yet.
+abbrev pub GenerationsCount : GeometryData → List ℕ → List Caller → List Entry → Type 0
+GenerationsCount g words callers h =
+    (y : Size) (region : ℕ) → region < blocks_in_region y * g.setup.gigabytes
+    → generation_word g words y region + count_by (is_due y region) callers
+    ≡ count_of g.setup.first (granule_bytes g.setup) y region h
+
+-- ---- calls that are alone
+
+-- since call k of caller c took lock n, no other has made an entry on its lock block
+pub record IsAlone (s : SetupData) (n c k : ℕ) (h : List Entry) : Type 0 where
+  pub before : List Entry
+  pub since : List Entry
+  pub parts : h ≡ before ++ since
+  pub fresh : list_any (is_by c k) before ≡ false
+  pub alone : All (λ e. is_on_block s n e ≡ true → is_by c k e ≡ true) since
+
+abbrev pub HoldersAreAlone : SetupData → List Caller → List Entry → Type 0
+HoldersAreAlone s callers h =
+    (c n : ℕ) (caller : Caller) → slice_get callers c ≡ Some caller → holds n caller ≡ true
+    → IsAlone s n c (call_of caller) h
+
+-- ---- the history
+
+-- answers are the counts of the history
+abbrev pub AnswersCount : GeometryData → List Caller → List Entry → Type 0
+AnswersCount g callers h =
+    (c k : ℕ) (caller : Caller) (t : Task) (given : Answer) → slice_get callers c ≡ Some caller
+    → slice_get (caller_tasks caller) k ≡ Some t
+    → slice_get (known_answers caller) k ≡ Some given → IsCounted g c k t given h
+
+-- each entry is allowed by the state that the entries before it leave
+abbrev pub AreAllowed : State → List Entry → Type 0
+AreAllowed s [] = Unit {0}
+AreAllowed s (e ∷ h) = StateAllows s e × AreAllowed (after_entry s e) h
+
+-- The history goes through states that allow it, and has each caller's own entries in their order,
+-- and no others.
+pub record IsHistoryOf (first : List Gpi) (callers : List Caller) (h : List Entry) : Type 0 where
+  pub allowed : AreAllowed (start first) h
+  pub own : (c : ℕ) (caller : Caller) → slice_get callers c ≡ Some caller
+      → entries_by c h ≡ own_of c caller
+  pub known : All (λ e. caller_in e < length callers) h
+
+-- ---- the whole
 
 -- duty words and lines aren't used yet
 pub record AreIdle (g : GeometryData) (words : List ℕ) : Type 0 where
   pub duty : (cpu : ℕ) → cpu < g.cpus → slice_index words (place_of g (Duty cpu)) ≡ 0
   pub lines : (i : ℕ) → i < l1_words g → slice_index words (place_of g (Line i)) ≡ 0
 
--- Words and callers fit a history from a first map.
-pub record Invariant (g : GeometryData) (first : List Gpi) (words : List ℕ) (callers : List Caller)
-    (h : List Entry) : Type 0 where
-  pub shape : HasShape g first words callers
-  pub tables : AreTables g words callers (map_after first h)
-  pub opened : OpenAreHeld (state_after (start first) h).opened callers
-  pub locks : LocksAreHeld words callers
-  pub seen : (c : ℕ) (caller : Caller) → slice_get callers c ≡ Some caller
-      → Sees (map_after first h) words caller
-  pub generations : GenerationsCount g words callers h
-  pub undisturbed : AreUndisturbed g.setup h
-  pub alone : HoldersAreAlone g.setup callers h
-  pub counted : AnswersCount g callers h
-  pub history : IsHistoryOf first callers h
-  pub idle : AreIdle g words
+-- The words and callers of a scene fit its history from its first map.
+pub record HoldsIn (g : GeometryData) (s : Scene) : Type 0 where
+  pub shape : HasShape g s
+  pub tables : AreTables g s.words s.callers (map_in s)
+  pub opened : OpenAreHeld (state_in s).opened s.callers
+  pub locks : LocksAreHeld s.words s.callers
+  pub seen : (c : ℕ) (caller : Caller) → slice_get s.callers c ≡ Some caller
+      → Sees (map_in s) s.words caller
+  pub generations : GenerationsCount g s.words s.callers s.history
+  pub undisturbed : AreUndisturbed g.setup s.history
+  pub alone : HoldersAreAlone g.setup s.callers s.history
+  pub counted : AnswersCount g s.callers s.history
+  pub history : IsHistoryOf s.first s.callers s.history
+  pub idle : AreIdle g s.words

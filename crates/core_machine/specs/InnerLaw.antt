@@ -5,7 +5,8 @@ use Rattle.shared_words.specs.declared.act.Act.{Act}
 use Rattle.shared_words.specs.Acts.{place_in, answer_of, after_act}
 use Rattle.core_machine.specs.declared.caller.Caller.{Caller}
 use Rattle.core_machine.specs.InnerCallers.{caller_next, caller_took, made_by, MayTake}
-use Rattle.core_machine.specs.InnerScene.{Scene, HoldsIn, scene_after}
+use Rattle.core_machine.specs.InnerScene.{Scene, scene_after}
+use Rattle.core_machine.specs.InnerInvariant.{HoldsIn}
 
 -- the scene after the next act of caller c, which is x
 abbrev pub scene_acted : Scene → ℕ → Caller → Act → Scene

@@ -7,8 +7,9 @@ use Rattle.shared_words.specs.Acts.{answer_of, after_act}
 use Rattle.history.specs.declared.entry.Entry.{Entry}
 use Rattle.core_machine.specs.declared.caller.Caller.{Caller}
 use Rattle.core_machine.specs.InnerCallers.{caller_next, caller_took, made_by}
-use Rattle.core_machine.specs.InnerInvariant.{Invariant}
-use Rattle.core_machine.specs.Trace.{TraceEvent}
+use Rattle.core_machine.specs.InnerScene.{Scene}
+use Rattle.core_machine.specs.InnerInvariant.{HoldsIn}
+use Rattle.core_machine.specs.Trace.{TraceEvent, history_of}
 
 pub record MachineData : Type 0 where
   pub geometry : GeometryData
@@ -18,9 +19,14 @@ pub record MachineData : Type 0 where
 abbrev pub machine_of : GeometryData → List Caller → List ℕ → MachineData
 machine_of g callers words = record { geometry = g; callers = callers; words = words }
 
+-- a machine as a scene
+abbrev pub scene_of : List Gpi → MachineData → List Entry → Scene
+scene_of first m h =
+    record { first = first; words = m.words; callers = m.callers; history = h }
+
 -- the machine has the invariant with a history from a first map
 abbrev pub InvariantFor : List Gpi → MachineData → List Entry → Type 0
-InvariantFor first m h = Invariant m.geometry first m.words m.callers h
+InvariantFor first m h = HoldsIn m.geometry (scene_of first m h)
 
 -- with some history
 abbrev pub HasInvariant : MachineData → Type 0
@@ -55,10 +61,6 @@ event_of m c a (Some t) =
     }
     ∷ []
 
-abbrev pub act_entries_of : MachineData → ℕ → Caller → Option Act → List Entry
-act_entries_of m c a None = []
-act_entries_of m c a (Some t) = made_by c a (answer_of t m.words)
-
 -- the machine after a turn of caller c, its event, and the entries that it makes
 abbrev pub after_turn_of : MachineData → ℕ → Option Caller → MachineData
 after_turn_of m c None = m
@@ -71,12 +73,11 @@ abbrev pub turn_event_of : MachineData → ℕ → Option Caller → List TraceE
 turn_event_of m c None = []
 turn_event_of m c (Some a) = event_of m c a (caller_next a)
 
-abbrev pub turn_entries_of : MachineData → ℕ → Option Caller → List Entry
-turn_entries_of m c None = []
-turn_entries_of m c (Some a) = act_entries_of m c a (caller_next a)
+abbrev pub turn_event : MachineData → ℕ → List TraceEvent
+turn_event m c = turn_event_of m c (slice_get m.callers c)
 
 abbrev pub turn_entries : MachineData → ℕ → List Entry
-turn_entries m c = turn_entries_of m c (slice_get m.callers c)
+turn_entries m c = history_of (turn_event m c)
 
 -- ---- a list of turns, by callers
 
@@ -87,10 +88,4 @@ after_turns m (c ∷ turns) = after_turns (after_turn m c) turns
 -- The trace: the events of the turns, without the turns of a caller that has no act.
 abbrev pub trace_of : MachineData → List ℕ → List TraceEvent
 trace_of m [] = []
-trace_of m (c ∷ turns) =
-    turn_event_of m c (slice_get m.callers c) ++ trace_of (after_turn m c) turns
-
--- the history of the trace: the entries of its events, in their order
-abbrev pub entries_in : MachineData → List ℕ → List Entry
-entries_in m [] = []
-entries_in m (c ∷ turns) = turn_entries m c ++ entries_in (after_turn m c) turns
+trace_of m (c ∷ turns) = turn_event m c ++ trace_of (after_turn m c) turns

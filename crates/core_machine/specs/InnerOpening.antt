@@ -1,4 +1,4 @@
--- Words and callers before the first act.
+-- The words before the first act.
 use Rattle.std.specs.Prelude.{◌≡◌, ℕ, ◌*◌, ◌<◌, List, length, slice_index, Some, None}
 use Rattle.gpi_values.specs.declared.gpi.Gpi.{Gpi}
 use Rattle.gpt_descriptors.specs.declared.size.Size.{Size}
@@ -7,17 +7,10 @@ use Rattle.gpt_descriptors.specs.Canonical.{canonical_word}
 use Rattle.gpt_descriptors.specs.Level0.{l1_index}
 use Rattle.gpt_descriptors.specs.Places.{GeometryData, IsGeometry, Lock, Duty, Line, place_of, l0_words, l1_words, word_count, blocks_in_region}
 use Rattle.table_meaning.specs.Meaning.{BlocksMean}
-use Rattle.delegate_ops.specs.InnerAgents.{IsAgent, fresh}
-use Rattle.core_machine.specs.declared.caller.Caller.{Caller}
-use Rattle.core_machine.specs.declared.caller.Caller.TheVariants as caller
-use Rattle.core_machine.specs.InnerTables.{table_word}
+pub use Rattle.core_machine.specs.InnerCallers.{IsFresh}
+use Rattle.core_machine.specs.InnerInvariant.{table_word}
 use Rattle.core_machine.specs.Scenarios.{map_at}
 use Rattle.core_machine.specs.Facts.{generation_word}
-
--- the caller was made with this geometry and has made no act
-abbrev pub IsFresh : GeometryData → Caller → Type 0
-IsFresh g (caller.Agent a) = (a ≡ fresh g a.tasks) × IsAgent a
-IsFresh g (caller.Cpu looks) = Unit {0}
 
 -- All words are there, no lock is held, the L1 words are the canonical ones of a map and each
 -- granule below an L0 block has the block's GPI in it, duty words and lines are 0, and each

@@ -2,11 +2,10 @@
 -- far.
 use Rattle.std.specs.Prelude.{ℕ, List, ◌++◌, slice_set}
 use Rattle.gpi_values.specs.declared.gpi.Gpi.{Gpi}
-use Rattle.gpt_descriptors.specs.Places.{GeometryData}
 use Rattle.history.specs.declared.entry.Entry.{Entry}
 use Rattle.history.specs.States.{State, start, state_after}
 use Rattle.core_machine.specs.declared.caller.Caller.{Caller}
-use Rattle.core_machine.specs.InnerInvariant.{Invariant}
+use Rattle.core_machine.specs.Scenarios.{map_at}
 
 pub record Scene : Type 0 where
   pub first : List Gpi
@@ -14,13 +13,12 @@ pub record Scene : Type 0 where
   pub callers : List Caller
   pub history : List Entry
 
--- the state that its history leaves
+-- the state that its history leaves, and the map
 abbrev pub state_in : Scene → State
 state_in s = state_after (start s.first) s.history
 
--- its words and callers fit its history
-abbrev pub HoldsIn : GeometryData → Scene → Type 0
-HoldsIn g s = Invariant g s.first s.words s.callers s.history
+abbrev pub map_in : Scene → ℕ → Gpi
+map_in s = map_at (state_in s).map
 
 -- caller c has become x, the words are these, and the history has these entries more
 abbrev pub scene_after : Scene → ℕ → Caller → List ℕ → List Entry → Scene

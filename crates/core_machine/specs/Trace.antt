@@ -12,7 +12,8 @@ use Rattle.scenario_text.specs.declared.scenario.Script.{Script}
 use Rattle.scenario_text.specs.declared.scenario.Script.TheVariants as script
 use Rattle.history.specs.declared.call.Answer.{Answer}
 use Rattle.history.specs.declared.entry.Entry.{Entry}
-use Rattle.delegate_ops.specs.Script.{CallEvent, Follows}
+use Rattle.history.specs.Events.{CallEvent}
+use Rattle.delegate_ops.specs.Script.{Follows}
 use Rattle.core_machine.specs.Scenarios.{task_of_ask}
 
 -- an event of a trace: a caller, and its act with its answer and its entries

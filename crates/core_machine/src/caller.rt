@@ -1,9 +1,11 @@
-ghost use Rattle.std.specs.Prelude.{◌≡◌, ◌+◌, ◌^◌, ◌<◌, ◌≤◌, IsSome};
+ghost use Rattle.std.specs.Prelude.{◌≡◌, ◌+◌, ◌^◌, ◌<◌, ◌≤◌, IsSome, false};
+ghost use Rattle.shared_words.specs.Next.{old_by, words_after, MayBeMade};
+ghost use Rattle.delegate_ops.specs.InnerAgents.{IsStill};
 ghost use Rattle.core_machine.specs.InnerCallers.{caller_next, caller_took, caller_waits, caller_answers, caller_left, MayTake, caller_stored, AreNext};
 
 use delegate_ops::Agent;
 use history::Answer;
-use shared_words::{Act, StoreRun};
+use shared_words::{Act, StoreRun, Words};
 use std::alloc::Global;
 
 /// One that acts on the shared words: an agent, or a processor, of which the number of accesses
@@ -34,6 +36,23 @@ impl Caller {
         match self {
             Caller::Agent(agent) => agent.took(old),
             Caller::Cpu(_) => {}
+        }
+    }
+
+    /// The next act, made on the words, if there is one. Whether it may have changed anything: it
+    /// has not where there is none, or the caller had waited and waits again.
+    pub fn turn<W: Words>(&mut self, words: &mut W) -> bool
+        requires place { MayBeMade (caller_next self.old) (W.words words.old) }
+        requires readable { MayTake self.old (old_by (caller_next self.old) (W.words words.old)) }
+        ensures words { W.words words.new ≡ words_after (caller_next self.old) (W.words words.old) }
+        ensures after { self.new
+            ≡ caller_took self.old (old_by (caller_next self.old) (W.words words.old)) }
+        ensures still { result ≡ false
+            → IsStill (caller_next self.old) (caller_waits self.old) (caller_waits self.new) }
+    {
+        match self {
+            Caller::Agent(agent) => agent.turn(words),
+            Caller::Cpu(_) => false,
         }
     }
 

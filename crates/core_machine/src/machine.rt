@@ -2,7 +2,8 @@ ghost use Rattle.std.specs.Prelude.{◌≡◌, ◌<◌, ◌≤◌, ℕ, List, []
 ghost use Rattle.std.specs.List.{All};
 ghost use Rattle.gpi_values.specs.declared.gpi.Gpi.{Gpi};
 ghost use Rattle.core_machine.specs.InnerOpening.{IsFresh, AreStarting};
-ghost use Rattle.core_machine.specs.InnerMachine.{InvariantFor, HasInvariant, KeepsInvariant, after_turn, after_turns, turn_entries, entries_in, MachineData, machine_of};
+ghost use Rattle.core_machine.specs.InnerMachine.{InvariantFor, HasInvariant, KeepsInvariant, after_turn, after_turns, turn_entries, trace_of, MachineData, machine_of};
+ghost use Rattle.core_machine.specs.Trace.{history_of};
 ghost use Rattle.delegate_ops.specs.InnerAgents.{fresh};
 
 use crate::caller::Caller;
@@ -52,16 +53,7 @@ impl<W: Words> Machine<W> {
         ensures invariant { KeepsInvariant self.old self.new (turn_entries self.old caller) }
         ensures still { result ≡ false → self.new ≡ self.old }
     {
-        let acting = &mut self.callers[caller];
-        if let Some(act) = acting.next() {
-            let waited = acting.waits();
-            let old = self.words.apply(act);
-            acting.took(old);
-            let again = acting.waits();
-            !(waited & again)
-        } else {
-            false
-        }
+        self.callers[caller].turn(&mut self.words)
     }
 
     /// One act of a caller, nothing where it has none. Where the machine had the invariant with a
@@ -83,7 +75,7 @@ impl<W: Words> Machine<W> {
         requires invariant { HasInvariant self.old }
         ensures turns { self.new ≡ after_turns self.old (replicate result caller) }
         ensures invariant { KeepsInvariant self.old self.new
-            (entries_in self.old (replicate result caller)) }
+            (history_of (trace_of self.old (replicate result caller))) }
         ensures most { result ≤ most }
     {
         let run = self.callers[caller].take_run(most as usize);

@@ -27,13 +27,14 @@ use Rattle.history.specs.declared.call.Task.{Task}
 use Rattle.history.specs.declared.call.Task.TheVariants as task
 use Rattle.history.specs.declared.call.Answer.{Answer}
 use Rattle.history.specs.declared.call.Answer.TheVariants as answer
+use Rattle.history.specs.Events.{CallEvent, Step, plain, plain_step, plain_event}
 use Rattle.delegate_ops.specs.declared.stage.Change.TheVariants as change
 use Rattle.delegate_ops.specs.declared.stage.Kept.{Kept}
-use Rattle.delegate_ops.specs.declared.stage.Stage.TheVariants as stage
+use Rattle.delegate_ops.specs.InnerStages as stage
 use Rattle.delegate_ops.specs.Deciding.{address_of, idle_answer, worn_answer}
 use Rattle.delegate_ops.specs.Changing.{first_change, changed_word, raised, splitting_of, split_stores, word_split}
 use Rattle.delegate_ops.specs.InnerAgents.{IsChangeOf, loaded_stage, read_all, split_stage, merging_stage, merged_stage, number_of}
-use Rattle.delegate_ops.specs.Script.{CallEvent, Step, plain, plain_step, plain_event, Reads, Changes, Merges, Decides, change_and_raises, transition_steps, all_steps, kept_split, last_word, last_generations}
+use Rattle.delegate_ops.specs.Script.{Reads, Changes, Merges, Decides, change_and_raises, transition_steps, all_steps, kept_split, last_word, last_generations}
 use Rattle.delegate_ops.specs.InnerScript.{IsChanging, IsMergingAt, IsPrefix}
 use Rattle.delegate_ops.specs.InnerEntries.{known_entries}
 use Rattle.delegate_ops.proofs.NextLemmas.{acts_index}

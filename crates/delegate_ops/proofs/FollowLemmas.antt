@@ -25,11 +25,12 @@ use Rattle.history.specs.declared.call.Task.TheVariants as task
 use Rattle.history.specs.declared.call.Answer.{Answer}
 use Rattle.history.specs.declared.call.Answer.TheVariants as answer
 use Rattle.history.specs.Counts.{is_worn}
+use Rattle.history.specs.Events.{CallEvent, Step, plain, plain_event}
 use Rattle.delegate_ops.specs.declared.stage.Kept.{Kept}
-use Rattle.delegate_ops.specs.declared.stage.Stage.{Stage}
-use Rattle.delegate_ops.specs.declared.stage.Stage.TheVariants as stage
+use Rattle.delegate_ops.specs.InnerStages.{Stage}
+use Rattle.delegate_ops.specs.InnerStages as stage
 use Rattle.delegate_ops.specs.Deciding.{address_of, idle_answer, looked_answer, worn_answer}
-use Rattle.delegate_ops.specs.Script.{CallEvent, Step, plain, lock_bit_of, entries_of, IsWait, TakesLock, reads, plain_event, Decides, IsUnderWay, Follows}
+use Rattle.delegate_ops.specs.Script.{lock_bit_of, entries_of, IsWait, TakesLock, reads, Decides, IsUnderWay, Follows}
 use Rattle.delegate_ops.specs.InnerAgents.{AgentData, IsAgent, HasActs, task_of, has_ended}
 use Rattle.delegate_ops.specs.InnerScript.{IsReading, reads_before, IsChanging, IsMergingAt, IsPrefix, HasWalked}
 use Rattle.delegate_ops.proofs.BlockLemmas.{one_made, done_by}

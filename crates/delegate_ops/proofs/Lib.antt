@@ -8,4 +8,5 @@ pub mod NextLemmas
 pub mod FollowLemmas
 pub mod PlaceLemmas
 pub mod TransitionLemmas
+pub mod TurnLemmas
 pub mod RunLemmas

@@ -7,8 +7,8 @@ use Rattle.gpt_descriptors.specs.Level0.{is_table, table_count}
 use Rattle.gpt_descriptors.specs.Places.{GeometryData, Level1, place_of, l0_words, l0_word_of, l1_index_of, l1_place_of}
 use Rattle.gpt_descriptors.proofs.PlaceLemmas.{region_of_word}
 use Rattle.history.specs.declared.call.Task.{Task}
-use Rattle.delegate_ops.specs.declared.stage.Stage.{Stage}
-use Rattle.delegate_ops.specs.declared.stage.Stage.TheVariants as stage
+use Rattle.delegate_ops.specs.InnerStages.{Stage}
+use Rattle.delegate_ops.specs.InnerStages as stage
 use Rattle.delegate_ops.specs.Deciding.{address_of, is_unusable, idle_answer}
 use Rattle.delegate_ops.specs.InnerAgents.{AgentData, IsAgent, IsStage, HasActs, task_of, act_at, next_of, has_ended}
 use Rattle.delegate_ops.proofs.DecidingLemmas.{acts_usable}

@@ -12,8 +12,9 @@ use Rattle.history.specs.declared.call.Task.{Task}
 use Rattle.history.specs.declared.call.Answer.{Answer}
 use Rattle.history.specs.declared.entry.Entry.{Entry}
 use Rattle.history.specs.Legality.{is_done}
+use Rattle.history.specs.Events.{CallEvent, plain}
 use Rattle.delegate_ops.specs.Deciding.{address_of, idle_answer}
-use Rattle.delegate_ops.specs.Script.{CallEvent, plain, lock_bit_of, TakesLock, Looks, Reads, reads, Decides, Releases, IsCall}
+use Rattle.delegate_ops.specs.Script.{lock_bit_of, TakesLock, Looks, Reads, reads, Decides, Releases, IsCall}
 use Rattle.delegate_ops.specs.Quiet.{IsQuiet}
 
 abbrev IsQuietEvent : GeometryData → Task → CallEvent → Type 0

@@ -14,13 +14,17 @@ use Rattle.fuse.specs.Merging.{FuseData}
 use Rattle.fuse.specs.Merging as fuse
 use Rattle.history.specs.declared.call.Task.{Task}
 use Rattle.history.specs.declared.call.Answer.{Answer}
-use Rattle.delegate_ops.specs.declared.stage.Stage.{Stage}
-use Rattle.delegate_ops.specs.declared.stage.Stage.TheVariants as stage
+use Rattle.delegate_ops.specs.InnerStages.{Stage}
+use Rattle.delegate_ops.specs.InnerStages as stage
 use Rattle.delegate_ops.specs.InnerAgents.{AgentData, IsAgent, IsStage, task_of, act_at, next_of, took_at, took_of, took_under_way, goes_to, split_stage, merging_stage, merged_stage}
 use Rattle.delegate_ops.specs.InnerTransition.{TransitionData, IsTransition, IsUnderWay, KeepsDescriptor, goes_by, stage_in}
 use Rattle.delegate_ops.specs.InnerRuns.{stored_by, AreNext, MakesStores, MakesRun}
 use Rattle.delegate_ops.proofs.AgentLemmas.{took_is_agent}
 use Rattle.delegate_ops.proofs.TransitionLemmas.{agent_of, with_parts, under_way_at, still_at, split_keeps, merging_keeps}
+
+pub split_none : (d : splitting.SplittingData) → splitting.advanced_by 0 d ≡ d
+unfolding splitting.advanced_by
+split_none d = refl
 
 -- ---- a task's next act, and the agent after it, by the stage
 

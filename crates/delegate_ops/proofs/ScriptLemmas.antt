@@ -15,17 +15,18 @@ use Rattle.bit_locks.specs.Locks.{take_act, release_act}
 use Rattle.invalidate.specs.Generations.{gen_load_of, gen_raise_of}
 use Rattle.history.specs.declared.call.Task.{Task}
 use Rattle.history.specs.declared.call.Answer.{Answer}
+use Rattle.history.specs.Events.{CallEvent, Step, plain}
 use Rattle.delegate_ops.specs.declared.stage.Change.{Change}
 use Rattle.delegate_ops.specs.declared.stage.Change.TheVariants as change
 use Rattle.delegate_ops.specs.declared.stage.Kept.{Kept}
-use Rattle.delegate_ops.specs.declared.stage.Stage.{Stage}
-use Rattle.delegate_ops.specs.declared.stage.Stage.TheVariants as stage
+use Rattle.delegate_ops.specs.InnerStages.{Stage}
+use Rattle.delegate_ops.specs.InnerStages as stage
 use Rattle.delegate_ops.specs.Deciding.{address_of, idle_answer, looked_answer, generation_in, worn_answer}
 use Rattle.delegate_ops.specs.Changing.{changed_word}
 use Rattle.shatter.specs.Splitting.{advanced}
 use Rattle.fuse.specs.Merging as fuse
 use Rattle.delegate_ops.specs.InnerAgents.{AgentData, IsAgent, HasActs, is_look, task_of, answered_first, idle_answers, fresh, act_at, next_of, looked_stage, read_stage, split_stage, merged_stage, raised_stage, kept_read, kept_changed, kept_raised, took_at, took_under_way, took_of}
-use Rattle.delegate_ops.specs.Script.{CallEvent, Step, plain, lock_bit_of, IsWait, TakesLock, Looks, completion, change_entry, Decides, Releases, IsCall, AreCallEvents}
+use Rattle.delegate_ops.specs.Script.{lock_bit_of, IsWait, TakesLock, Looks, completion, change_entry, Decides, Releases, IsCall, AreCallEvents}
 use Rattle.delegate_ops.specs.InnerScript.{IsReading, reads_before, IsPrefix, HasWalked}
 use Rattle.delegate_ops.specs.InnerEntries.{known_entries, made_at}
 use Rattle.delegate_ops.proofs.BlockLemmas.{one_made, read_all_prefix, split_prefix, begun_prefix, merged_prefix}

@@ -20,8 +20,8 @@ use Rattle.delegate_ops.specs.declared.places.Places.{Places}
 use Rattle.delegate_ops.specs.declared.stage.Change.{Change}
 use Rattle.delegate_ops.specs.declared.stage.Change.TheVariants as change
 use Rattle.delegate_ops.specs.declared.stage.Kept.{Kept}
-use Rattle.delegate_ops.specs.declared.stage.Stage.{Stage}
-use Rattle.delegate_ops.specs.declared.stage.Stage.TheVariants as stage
+use Rattle.delegate_ops.specs.InnerStages.{Stage}
+use Rattle.delegate_ops.specs.InnerStages as stage
 use Rattle.delegate_ops.specs.Deciding.{idle_answer, looked_answer, worn_answer}
 use Rattle.delegate_ops.specs.InnerAgents.{AgentData, IsReadable, is_look, task_of, act_at, next_of, is_held, stage_after, took_at, took_of, took_under_way, after_answer, waits_at, goes_to, looked_stage, loaded_stage, read_all, read_stage, split_stage, merging_stage, raised_stage, kept_read, kept_raised}
 use Rattle.delegate_ops.specs.InnerTransition.{TransitionData, IsTransition, KeepsDescriptor, IsUnderWay, places_of, begun, act_by, next_by, is_held_by, answer_by, unended, after_by, stage_in, waited_in}

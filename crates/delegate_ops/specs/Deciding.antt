@@ -4,6 +4,7 @@ use Rattle.std.specs.List.{find}
 use Rattle.std.specs.Option.{option_map}
 use Rattle.gpi_values.specs.declared.gpi.Gpi.{Gpi}
 use Rattle.gpi_values.specs.Values.{value_of}
+use Rattle.gpt_descriptors.specs.declared.size.Size.{Size}
 use Rattle.gpt_descriptors.specs.declared.size.Size.TheVariants as size
 use Rattle.gpt_descriptors.specs.declared.size.Generations.{Generations}
 use Rattle.gpt_descriptors.specs.Sizes.{granule_bytes, place_in_word, space_bytes}
@@ -59,12 +60,14 @@ looked_answer g t word = refusal_of t (word_gpi word (granule_place g (address_o
 
 -- ---- by the generations
 
--- what a transition is answered that loads these generations under the lock: the first size whose
--- generation is too near to the last one
+-- the first size whose generation is too near to the last one
+abbrev pub worn_size : Generations → Option Size
+worn_size k =
+    find (λ z. is_worn (generation_in z k)) (size.Two ∷ size.ThirtyTwo ∷ size.FiveTwelve ∷ [])
+
+-- what a transition is answered that loads these generations under the lock
 abbrev pub worn_answer : Generations → Option Answer
-worn_answer k =
-    option_map (λ z. answer.Worn z (generation_in z k))
-    (find (λ z. is_worn (generation_in z k)) (size.Two ∷ size.ThirtyTwo ∷ size.FiveTwelve ∷ []))
+worn_answer k = option_map (λ z. answer.Worn z (generation_in z k)) (worn_size k)
 
 -- ---- causes
 

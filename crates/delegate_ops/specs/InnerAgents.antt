@@ -27,11 +27,11 @@ use Rattle.history.specs.declared.call.Answer.TheVariants as answer
 use Rattle.delegate_ops.specs.declared.stage.Change.{Change}
 use Rattle.delegate_ops.specs.declared.stage.Change.TheVariants as change
 use Rattle.delegate_ops.specs.declared.stage.Kept.{Kept}
-use Rattle.delegate_ops.specs.declared.stage.Stage.{Stage}
-use Rattle.delegate_ops.specs.declared.stage.Stage.TheVariants as stage
+pub use Rattle.delegate_ops.specs.InnerStages.{Stage, kept_read}
+use Rattle.delegate_ops.specs.InnerStages as stage
 pub use Rattle.delegate_ops.specs.Deciding.{is_look}
 use Rattle.delegate_ops.specs.Deciding.{address_of, idle_answer, looked_answer, generation_in, worn_answer}
-use Rattle.delegate_ops.specs.Changing.{first_change, changed_word, with_generation, raised_at, word_in_block, splitting_of}
+use Rattle.delegate_ops.specs.Changing.{first_change, changed_word, raised_at, word_in_block, splitting_of}
 use Rattle.delegate_ops.specs.Script.{lock_bit_of}
 
 pub record AgentData : Type 0 where
@@ -175,9 +175,6 @@ raised_stage g t change.Last size.FiveTwelve k =
     merged_stage (fuse.fuse_of g (number_of (l1_index_of g (address_of t))) k.word) k.generations
 
 -- what is kept after an act
-abbrev pub kept_read : Size → ℕ → Kept → Kept
-kept_read z old k = record { word = k.word; generations = with_generation z old k.generations }
-
 abbrev pub kept_changed : GeometryData → Task → Change → Kept → Kept
 kept_changed g t c k = record { word = changed_word g t c k.word; generations = k.generations }
 
@@ -214,6 +211,11 @@ took_under_way a (Some t) old = took_at a t a.stage old
 -- the agent after an act that answered this word
 abbrev pub took_of : AgentData → ℕ → AgentData
 took_of a old = took_under_way a (task_of a) old
+
+-- a turn has changed nothing: there was no next act, or it was a wait after a wait
+abbrev pub IsStill : Option Act → Bool → Bool → Type 0
+IsStill None before after = Unit {0}
+IsStill (Some next) before after = (before ≡ true) × (after ≡ true)
 
 -- ---- which agents there are
 

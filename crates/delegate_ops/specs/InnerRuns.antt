@@ -4,8 +4,8 @@ use Rattle.shared_words.specs.declared.act.StoreRun.{StoreRun}
 use Rattle.shared_words.specs.Acts.{store_in}
 use Rattle.shatter.specs.Splitting as splitting
 use Rattle.fuse.specs.Merging as fuse
-use Rattle.delegate_ops.specs.declared.stage.Stage.{Stage}
-use Rattle.delegate_ops.specs.declared.stage.Stage.TheVariants as stage
+use Rattle.delegate_ops.specs.InnerStages.{Stage}
+use Rattle.delegate_ops.specs.InnerStages as stage
 use Rattle.delegate_ops.specs.InnerAgents.{AgentData, next_of, took_of, split_stage, merged_stage}
 use Rattle.delegate_ops.specs.InnerTransition.{TransitionData, goes_by}
 

@@ -12,14 +12,15 @@ use Rattle.fuse.specs.Merging.{FuseData, fuse_of}
 use Rattle.fuse.specs.Script.{Walks}
 use Rattle.invalidate.specs.Generations.{gen_load_of, gen_raise_of}
 use Rattle.history.specs.declared.call.Task.{Task}
+use Rattle.history.specs.Events.{CallEvent, Step, plain, plain_step, plain_event}
 use Rattle.delegate_ops.specs.declared.stage.Change.{Change}
 use Rattle.delegate_ops.specs.declared.stage.Change.TheVariants as change
 use Rattle.delegate_ops.specs.declared.stage.Kept.{Kept}
-use Rattle.delegate_ops.specs.declared.stage.Stage.{Stage}
-use Rattle.delegate_ops.specs.declared.stage.Stage.TheVariants as stage
+use Rattle.delegate_ops.specs.InnerStages.{Stage}
+use Rattle.delegate_ops.specs.InnerStages as stage
 use Rattle.delegate_ops.specs.Deciding.{address_of, looked_answer}
 use Rattle.delegate_ops.specs.Changing.{changed_word, raised_at, raised}
-use Rattle.delegate_ops.specs.Script.{CallEvent, Step, plain, plain_step, plain_event, IsWait, TakesLock, Looks, Changes, Decides, AreCallEvents, last_raise, raises, change_and_raises, kept_after, kept_split, transition_steps, all_steps, last_word, last_generations}
+use Rattle.delegate_ops.specs.Script.{IsWait, TakesLock, Looks, Changes, Decides, AreCallEvents, last_raise, raises, change_and_raises, kept_after, kept_split, transition_steps, all_steps, last_word, last_generations}
 use Rattle.delegate_ops.specs.InnerAgents.{AgentData, task_of}
 
 -- the loads of generations before that of this size

@@ -1,5 +1,5 @@
 -- A transition by where its acts are made: places that are worked out once, when its call begins.
-use Rattle.std.specs.Prelude.{◌≡◌, ℕ, ◌+◌, Bool, false, not, ◌==◌, true, Option, Some, None, IsTrue, is_some, if◌then◌else◌}
+use Rattle.std.specs.Prelude.{◌≡◌, ℕ, ◌+◌, Bool, false, not, ◌==◌, true, ◌&&◌, Option, Some, None, IsTrue, is_some, if◌then◌else◌}
 use Rattle.std.specs.Int.Bits.{bit_and}
 use Rattle.gpi_values.specs.Values.{value_of}
 use Rattle.gpt_descriptors.specs.declared.size.Size.{Size}
@@ -16,10 +16,14 @@ use Rattle.history.specs.declared.call.Task.TheVariants as task
 use Rattle.history.specs.declared.call.Answer.{Answer}
 use Rattle.delegate_ops.specs.declared.places.Places.{Places}
 use Rattle.delegate_ops.specs.declared.stage.Change.{Change}
-use Rattle.delegate_ops.specs.declared.stage.Stage.{Stage}
-use Rattle.delegate_ops.specs.declared.stage.Stage.TheVariants as stage
+use Rattle.delegate_ops.specs.InnerStages.{Stage}
+use Rattle.delegate_ops.specs.InnerStages as stage
 use Rattle.shatter.specs.Splitting.{next_store}
 use Rattle.fuse.specs.Merging as fuse
+use Rattle.delegate_ops.specs.declared.progress.Progress.{Progress}
+use Rattle.delegate_ops.specs.declared.progress.Turned.{Turned}
+use Rattle.delegate_ops.specs.declared.progress.Turned.TheVariants as turned
+use Rattle.delegate_ops.specs.InnerStages.{stage_of, waits_in}
 use Rattle.delegate_ops.specs.Deciding.{address_of, granule_place, idle_answer}
 use Rattle.delegate_ops.specs.Changing.{to_of}
 use Rattle.delegate_ops.specs.Script.{lock_bit_of}
@@ -119,6 +123,26 @@ pub record IsTransition (g : GeometryData) (d : TransitionData) : Type 0 where
   pub moves : IsMove d.task
   pub stage : IsStage g d.stage (Some d.task)
   pub kept : KeepsDescriptor d.stage
+
+-- ---- a transition by its progress
+
+abbrev pub at_progress : Task → Places → Progress → TransitionData
+at_progress t p q =
+    record { task = t; places = p; stage = stage_of q; waited = waits_in q.phase }
+
+-- it is at this stage, and doesn't wait
+abbrev pub GoesTo : Progress → Stage → Type 0
+GoesTo q s = (stage_of q ≡ s) × (waits_in q.phase ≡ false)
+
+-- what a turn was whose act answered this word
+abbrev pub turned_at : Option Answer → Bool → Turned
+turned_at (Some given) again = turned.Ends
+turned_at None true = turned.Still
+turned_at None false = turned.Goes
+
+abbrev pub turned_by : TransitionData → ℕ → Turned
+turned_by d old =
+    turned_at (answer_by d.stage) (d.waited && is_held_by d.places d.stage old)
 
 -- ---- an agent's transition
 

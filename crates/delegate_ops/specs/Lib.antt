@@ -2,6 +2,7 @@ pub mod Deciding
 pub mod Changing
 pub mod Script
 pub mod Quiet
+pub mod InnerStages
 pub mod InnerAgents
 pub mod InnerTransition
 pub mod InnerScript

@@ -11,7 +11,6 @@ use Rattle.gpt_descriptors.specs.Sizes.{granule_bytes}
 use Rattle.gpt_descriptors.specs.Entries.{l1_entry}
 use Rattle.gpt_descriptors.specs.Places.{GeometryData, l1_index_of, l1_place_of}
 use Rattle.shared_words.specs.Events.{Event}
-use Rattle.shared_words.specs.declared.act.Act.{Act}
 use Rattle.shared_words.specs.declared.act.Act.TheVariants as act
 use Rattle.fuse.specs.declared.outcome.Fused.{Fused}
 use Rattle.fuse.specs.Merging.{around_of}
@@ -26,35 +25,12 @@ use Rattle.history.specs.declared.call.Answer.TheVariants as answer
 use Rattle.history.specs.declared.entry.Entry.{Entry}
 use Rattle.history.specs.declared.entry.Entry.TheVariants as entry
 use Rattle.history.specs.Calls.{call_entries}
+use Rattle.history.specs.Events.{CallEvent, Step, steps_in, plain, plain_step, plain_event}
 use Rattle.delegate_ops.specs.declared.stage.Change.{Change}
 use Rattle.delegate_ops.specs.declared.stage.Change.TheVariants as change
 use Rattle.delegate_ops.specs.declared.stage.Kept.{Kept}
 use Rattle.delegate_ops.specs.Deciding.{address_of, idle_answer, looked_answer, worn_answer}
 use Rattle.delegate_ops.specs.Changing.{from_of, to_of, changed_word, raised, split_stores, word_split}
-
--- an event of a call: an act, the word that it answered, and the entries that it makes
-pub record CallEvent : Type 0 where
-  pub act : Act
-  pub old : ℕ
-  pub made : List Entry
-
--- a step of the script: an act and the entries that it makes
-pub record Step : Type 0 where
-  pub act : Act
-  pub made : List Entry
-
-abbrev pub steps_in : List CallEvent → List Step
-steps_in events = map (λ e. record { act = e.act; made = e.made }) events
-
--- an event, and a step, without entries
-abbrev pub plain : Act → ℕ → CallEvent
-plain act old = record { act = act; old = old; made = [] }
-
-abbrev pub plain_step : Act → Step
-plain_step act = record { act = act; made = [] }
-
-abbrev pub plain_event : Event → CallEvent
-plain_event e = plain e.act e.old
 
 -- ---- the parts of a transition
 

@@ -1,15 +1,18 @@
-ghost use Rattle.std.specs.Prelude.{◌≡◌, ◌+◌, ◌-◌, ◌^◌, ◌<◌, ◌≤◌, ◌++◌, IfOk, IfSome, IsSome, IsTrue, is_some, not, None, length, drop, false, slice_get, vec_capacity};
+ghost use Rattle.std.specs.Prelude.{◌≡◌, ◌<◌, ◌^◌, ◌+◌, ◌-◌, ◌≤◌, ◌++◌, IfOk, IfSome, IsSome, IsTrue, is_some, not, Some, None, length, drop, false, slice_get, vec_capacity};
 ghost use Rattle.std.specs.List.{All};
 ghost use Rattle.std.specs.Option.{option_map};
-ghost use Rattle.delegate_ops.specs.InnerAgents.{is_look, task_of, fresh, idle_answers, has_ended, next_of, after_answer, took_of, HasActs, IsReadable};
+ghost use Rattle.delegate_ops.specs.Deciding.{idle_answer};
+ghost use Rattle.delegate_ops.specs.InnerAgents.{is_look, task_of, fresh, idle_answers, has_ended, next_of, after_answer, took_of, IsStill, HasActs, IsReadable};
 ghost use Rattle.delegate_ops.specs.InnerTransition.{begun, IsUnderWay};
 ghost use Rattle.delegate_ops.specs.InnerRuns.{stored_by, AreNext, IsStoring};
+ghost use Rattle.shared_words.specs.Next.{old_by, words_after, MayBeMade};
 
 use crate::deciding::idle_answer;
+use crate::progress::Turned;
 use crate::transition::Transition;
 use gpt_descriptors::Geometry;
 use history::{Answer, Task};
-use shared_words::{Act, StoreRun};
+use shared_words::{Act, StoreRun, Words};
 use std::alloc::{AllocError, Global};
 use std::marker::Model;
 
@@ -65,17 +68,38 @@ fn answer_idle(geometry: &Geometry, tasks: &[Task], answers: &mut Vec<Answer>)
     }
 }
 
-/// The transition of the first task without an answer, if there is one, before its first act.
-fn begin(geometry: &Geometry, tasks: &[Task], answers: &[Answer]) -> Option<Transition>
+/// The transition of a task before its first act, in the place of the one before.
+fn begin_task(geometry: &Geometry, task: Task, transition: &mut Option<Transition>)
+    requires acts { idle_answer geometry.now task ≡ None }
+    requires no_look { is_look task ≡ false }
+    ensures value { transition.new ≡ Some (begun geometry.now task) }
+    ensures is { IsUnderWay geometry.now (Some task) transition.new }
+{
+    match transition {
+        Some(transition) => transition.restart(geometry, task),
+        None => *transition = Some(Transition::new(geometry, task)),
+    }
+}
+
+/// The transition of the first task without an answer, if there is one, before its first act, in
+/// the place of the one before.
+#[tactic(auto, using(std::proofs::lemmas::Option::slice_get_past))]
+fn begin(
+    geometry: &Geometry,
+    tasks: &[Task],
+    answers: &[Answer],
+    transition: &mut Option<Transition>,
+)
     requires acts { HasActs geometry.now (slice_get tasks.now (length answers.now)) }
     requires no_looks { All (λ t. is_look t ≡ false) tasks.now }
-    ensures value { result
+    ensures value { transition.new
         ≡ option_map (begun geometry.now) (slice_get tasks.now (length answers.now)) }
-    ensures under_way { IsUnderWay geometry.now (slice_get tasks.now (length answers.now)) result }
+    ensures under_way { IsUnderWay geometry.now (slice_get tasks.now (length answers.now))
+        transition.new }
 {
     match tasks.get(answers.len()) {
-        Some(task) => Some(Transition::new(geometry, *task)),
-        None => None,
+        Some(task) => begin_task(geometry, *task, transition),
+        None => *transition = None,
     }
 }
 
@@ -87,7 +111,8 @@ impl Agent {
     {
         let mut answers = Vec::with_capacity(alloc, tasks.len())?;
         answer_idle(&geometry, &tasks, &mut answers);
-        let transition = begin(&geometry, &tasks, &answers);
+        let mut transition = None;
+        begin(&geometry, &tasks, &answers, &mut transition);
         Ok(Agent {
             geometry,
             tasks,
@@ -114,7 +139,12 @@ impl Agent {
     {
         self.answers.push_reserved(answer);
         answer_idle(&self.geometry, &self.tasks, &mut self.answers);
-        self.transition = begin(&self.geometry, &self.tasks, &self.answers);
+        begin(
+            &self.geometry,
+            &self.tasks,
+            &self.answers,
+            &mut self.transition,
+        );
     }
 
     /// Takes note that the next act was made and answered `old`.
@@ -127,6 +157,33 @@ impl Agent {
             if let Some(answer) = transition.took(&self.geometry, old) {
                 self.end(answer);
             }
+        }
+    }
+
+    /// The next act, made on the words, if there is one. Whether it may have changed anything: it
+    /// has not where the agent has no act, or had waited and waits again.
+    pub fn turn<W: Words>(&mut self, words: &mut W) -> bool
+        requires place { MayBeMade (next_of self.old) (W.words words.old) }
+        requires readable { IsReadable self.old.stage
+            (old_by (next_of self.old) (W.words words.old)) }
+        ensures words { W.words words.new ≡ words_after (next_of self.old) (W.words words.old) }
+        ensures after { self.new
+            ≡ took_of self.old (old_by (next_of self.old) (W.words words.old)) }
+        ensures still { result ≡ false
+            → IsStill (next_of self.old) self.old.waited self.new.waited }
+    {
+        match &mut self.transition {
+            Some(transition) => match transition.turn(&self.geometry, words) {
+                Turned::Still => false,
+                Turned::Goes => true,
+                Turned::Ends => {
+                    if let Some(answer) = transition.answer() {
+                        self.end(answer);
+                    }
+                    true
+                }
+            },
+            None => false,
         }
     }
 

@@ -1,10 +1,9 @@
-ghost use Rattle.std.specs.Prelude.{◌≡◌, ◌<◌, ◌^◌, IsTrue, IsSome, is_some};
-ghost use Rattle.gpt_descriptors.specs.Entries.{l1_entry, word_gpi};
+ghost use Rattle.std.specs.Prelude.{◌≡◌};
 ghost use Rattle.history.specs.Legality.{needed};
-ghost use Rattle.delegate_ops.specs.Deciding.{address_of, is_unusable, idle_answer, is_needed, refusal_of, worn_answer};
+ghost use Rattle.delegate_ops.specs.Deciding.{address_of, is_unusable, idle_answer, is_needed, worn_size};
 
 use gpi_values::{Gpi, nibble};
-use gpt_descriptors::{Generations, Geometry, Size, is_worn, l1_field};
+use gpt_descriptors::{Generations, Geometry, Size, is_worn};
 use history::{Answer, Task, needed};
 
 /// The byte address of a task.
@@ -44,7 +43,7 @@ pub fn idle_answer(geometry: &Geometry, task: Task) -> Option<Answer>
 }
 
 /// Whether this GPI is the one that the transition needs.
-fn is_needed(task: Task, found: Gpi) -> bool
+pub fn is_needed(task: Task, found: Gpi) -> bool
     ensures { result ≡ is_needed (needed task) found }
 {
     match needed(task) {
@@ -53,32 +52,16 @@ fn is_needed(task: Task, found: Gpi) -> bool
     }
 }
 
-/// What a transition is answered that loads this L1 word under the lock, in which its granule has
-/// this field, or `None` where it finds the GPI that it needs.
-pub fn looked_answer(task: Task, field: u64, word: u64) -> Option<Answer>
-    requires descriptor { IsTrue (is_some (l1_entry word)) }
-    requires field { field < 16 }
-    ensures { result ≡ refusal_of task (word_gpi word field) }
-{
-    let found = l1_field(word, field);
-    if is_needed(task, found) {
-        None
-    } else {
-        Some(Answer::Perm(found))
-    }
-}
-
-/// What a transition is answered that loads these generations under the lock, or `None` where none
-/// of them is worn.
-pub fn worn_answer(generations: Generations) -> Option<Answer>
-    ensures { result ≡ worn_answer generations }
+/// The first size whose generation is exhausted, or `None` where none is.
+pub fn worn_size(generations: Generations) -> Option<Size>
+    ensures { result ≡ worn_size generations }
 {
     if is_worn(generations.two) {
-        Some(Answer::Worn(Size::Two, generations.two))
+        Some(Size::Two)
     } else if is_worn(generations.thirty_two) {
-        Some(Answer::Worn(Size::ThirtyTwo, generations.thirty_two))
+        Some(Size::ThirtyTwo)
     } else if is_worn(generations.five_twelve) {
-        Some(Answer::Worn(Size::FiveTwelve, generations.five_twelve))
+        Some(Size::FiveTwelve)
     } else {
         None
     }

@@ -3,10 +3,11 @@ ghost use Rattle.std.specs.List.{All};
 ghost use Rattle.history.specs.declared.call.Task.{Task};
 ghost use Rattle.history.specs.declared.call.Answer.{Answer};
 ghost use Rattle.history.specs.Legality.{is_done};
+ghost use Rattle.history.specs.Events.{CallEvent, plain};
 ghost use Rattle.gpt_descriptors.specs.Places.{GeometryData};
 ghost use Rattle.bit_locks.specs.Locks.{release_act};
 ghost use Rattle.delegate_ops.specs.Deciding.{idle_answer};
-ghost use Rattle.delegate_ops.specs.Script.{CallEvent, plain, lock_bit_of, IsCall};
+ghost use Rattle.delegate_ops.specs.Script.{lock_bit_of, IsCall};
 ghost use Rattle.delegate_ops.specs.Quiet.{IsQuiet};
 
 /// The law of refused calls: a call with an answer other than done loads its own L1 word and its

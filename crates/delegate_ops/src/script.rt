@@ -1,9 +1,10 @@
 ghost use Rattle.std.specs.Prelude.{◌≡◌, ℕ, List, [], ◌∷◌, ◌++◌, Some, true, length};
 ghost use Rattle.shared_words.specs.declared.act.Act.{Act};
 ghost use Rattle.history.specs.declared.call.Task.{Task};
+ghost use Rattle.history.specs.Events.{CallEvent};
 ghost use Rattle.gpt_descriptors.specs.Places.{GeometryData};
 ghost use Rattle.delegate_ops.specs.InnerAgents.{AgentData, IsAgent, fresh, task_of, next_of, took_of, has_ended};
-ghost use Rattle.delegate_ops.specs.Script.{CallEvent, Follows};
+ghost use Rattle.delegate_ops.specs.Script.{Follows};
 ghost use Rattle.delegate_ops.specs.InnerScript.{HasWalked};
 ghost use Rattle.delegate_ops.specs.InnerEntries.{made_at};
 

@@ -1,10 +1,8 @@
 ghost use Rattle.std.specs.Prelude.{◌≡◌};
-ghost use Rattle.delegate_ops.specs.InnerAgents.{kept_read};
+ghost use Rattle.delegate_ops.specs.InnerStages.{kept_read, answer_for};
 
-use fuse::Fuse;
-use gpt_descriptors::{Generations, Size};
+use gpt_descriptors::{Generations, Gpi, Size};
 use history::Answer;
-use shatter::Splitting;
 
 /// Which of its changes a transition makes. A delegate makes the last one alone, an undelegate goes
 /// through no access first.
@@ -40,34 +38,61 @@ impl Kept {
         }
     }
 
-    /// With this generation of a size, as it was loaded or stored.
-    pub fn with(self, size: Size, value: u64) -> Kept
-        ensures { result ≡ kept_read size value self }
+    /// Keeps the generation of a size, as it was loaded or stored.
+    pub fn note(&mut self, size: Size, value: u64)
+        ensures { self.new ≡ kept_read size value self.old }
     {
-        Kept {
-            word: self.word,
-            generations: self.generations.with(size, value),
+        match size {
+            Size::Two => self.generations.two = value,
+            Size::ThirtyTwo => self.generations.thirty_two = value,
+            Size::FiveTwelve => self.generations.five_twelve = value,
         }
     }
 }
 
-/// How far the call under way of an agent has come, with what it keeps.
-#[derive(Clone, Copy, Debug)]
-pub enum Stage {
+/// What a transition will be answered, with the generations that it keeps.
+#[derive(Clone, Copy, Debug, PartialEq, Eq)]
+pub enum Ending {
+    /// It found this GPI, which isn't the one that it needs.
+    Refused(Gpi),
+    /// The generation of this size is exhausted.
+    Worn(Size),
+    /// The granule is changed.
+    Done,
+}
+
+impl Ending {
+    /// The answer of a transition that keeps these generations.
+    pub fn answer(self, generations: Generations) -> Answer
+        ensures { result ≡ answer_for self generations }
+    {
+        match self {
+            Ending::Refused(found) => Answer::Perm(found),
+            Ending::Worn(size) => Answer::Worn(size, generations.get(size)),
+            Ending::Done => Answer::Done(generations),
+        }
+    }
+}
+
+/// How far the call under way of an agent has come.
+#[derive(Clone, Copy, Debug, PartialEq, Eq)]
+pub enum Phase {
     /// The next act takes the lock.
     Locking,
+    /// The lock wasn't free. The next act tries to take it again.
+    Waiting,
     /// The lock is held. The next act looks at the L1 word.
     Looking,
     /// The granule has the needed GPI. The next act loads the generation of this size.
-    Reading(Size, Kept),
+    Reading(Size),
     /// The granule is in a contiguous block of this size. The next act is a store of its splitting.
-    Splitting(Size, Splitting, Generations),
+    Splitting(Size),
     /// The next act writes the L1 word with this change of the granule.
-    Changing(Change, Kept),
+    Changing(Change),
     /// The granule is changed. The next act raises the generation of this size.
-    Raising(Change, Size, Kept),
+    Raising(Change, Size),
     /// The granule has its last GPI. The next act is a load or a store of merging.
-    Merging(Fuse, Generations),
+    Merging,
     /// The next act releases the lock, and the call is answered so.
-    Releasing(Answer),
+    Releasing(Ending),
 }

@@ -1,3 +1,4 @@
 pub mod IndexLemmas
 pub mod ScriptLemmas
+pub mod StartLemmas
 pub mod RunLemmas

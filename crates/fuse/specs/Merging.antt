@@ -1,13 +1,13 @@
 -- Merging of contiguous blocks (TF-A gpt_rme, fusing of contiguous descriptors) as plain data, a
 -- load or a store at a time. What is loaded and stored is named by its number among the L1 words,
 -- which are in a row from their first place on.
-use Rattle.std.specs.Prelude.{◌≡◌, ℕ, zero, suc, ◌+◌, ◌*◌, ◌^◌, ◌<◌, Option, Some, None}
+use Rattle.std.specs.Prelude.{◌≡◌, ℕ, zero, suc, ◌+◌, ◌*◌, ◌^◌, ◌<◌, Bool, ◌&&◌, is_some, Option, Some, None}
 use Rattle.gpi_values.specs.declared.gpi.Gpi.{Gpi}
 use Rattle.gpi_values.specs.declared.gpi.Gpi.TheVariants as gpi
 use Rattle.gpt_descriptors.specs.declared.size.Size.TheVariants as size
 use Rattle.gpt_descriptors.specs.declared.size.MaxBlock.{MaxBlock}
 use Rattle.gpt_descriptors.specs.declared.entry.L1Entry.TheVariants as l1
-use Rattle.gpt_descriptors.specs.Sizes.{words_of}
+use Rattle.gpt_descriptors.specs.Sizes.{words_of, is_permitted}
 use Rattle.gpt_descriptors.specs.Entries.{l1_word}
 use Rattle.gpt_descriptors.specs.Fields.{equal_gpi}
 use Rattle.gpt_descriptors.specs.Places.{GeometryData, Level1, place_of}
@@ -118,6 +118,11 @@ begin_of a = record {
 
 abbrev pub fuse_of : GeometryData → ℕ → ℕ → FuseData
 fuse_of g i word = begin_of (around_of g i word)
+
+-- merging around a word has acts where a contiguous size is permitted and the word has sixteen equal
+-- GPIs
+abbrev pub has_acts : MaxBlock → ℕ → Bool
+has_acts max word = is_permitted max size.Two && is_some (equal_gpi word)
 
 -- ---- the numbers of the next load and store are below their counts
 

@@ -9,6 +9,6 @@ mod outcome;
 mod step;
 
 pub use law::steps_walk_the_script;
-pub use merging::Fuse;
+pub use merging::{Fuse, has_acts};
 pub use outcome::Fused;
 pub use table_meaning::Fusing;

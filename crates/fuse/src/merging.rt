@@ -2,7 +2,7 @@ ghost use Rattle.std.specs.Prelude.{◌≡◌, ◌+◌, ◌*◌, ◌/◌, ◌%�
 ghost use Rattle.gpt_descriptors.specs.Sizes.{space_bytes};
 ghost use Rattle.gpt_descriptors.specs.Places.{IsGeometry, l1_index_of, l1_place_of};
 ghost use Rattle.table_meaning.specs.Fusing.{block_words, loads_of, load_at, store_at};
-ghost use Rattle.fuse.specs.Merging.{next_of, took_of, stored_by, outcome_of, fuse_of, AreNext, IsStoring};
+ghost use Rattle.fuse.specs.Merging.{next_of, took_of, stored_by, outcome_of, fuse_of, has_acts, AreNext, IsStoring};
 
 use crate::outcome::Fused;
 use crate::step::{begun, beside, block_words, loaded, stored, stored_to};
@@ -194,6 +194,14 @@ impl Fuse {
             _ => Fused::No,
         }
     }
+}
+
+/// Whether merging around a word has any act: a contiguous size is permitted, and the word has
+/// sixteen equal GPIs.
+pub fn has_acts(max: MaxBlock, word: u64) -> bool
+    ensures { result ≡ has_acts max word }
+{
+    max.permits(Size::Two) && equal_gpi(word).is_some()
 }
 
 /// The number of the L1 word of an address among the L1 words.

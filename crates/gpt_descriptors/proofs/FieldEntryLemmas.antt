@@ -150,3 +150,11 @@ contiguous_field word i is other =
 
 pub granules_field : (word i : ℕ) → is_granules word ≡ true → gpi_with (field word i) ≡ word_gpi word i
 granules_field word i is = rw (granules_word_entry word is) refl
+
+-- a descriptor gives each of its granules a GPI
+pub descriptor_gpi : (word i : ℕ) → IsSome (l1_entry word) → i < 16 → IsSome (word_gpi word i)
+descriptor_gpi word i is within =
+    elim (cases_Bool (is_granules word)) [
+      | inl granules ↦ subst (λ (o : Option Gpi). IsSome o) (granules_field word i granules) (granules_each word granules i within)
+      | inr other ↦ let both = contiguous_field word i is other in subst (λ (o : Option Gpi). IsSome o) both.1 both.0
+    ]

@@ -14,7 +14,7 @@ use Rattle.gpt_descriptors.specs.declared.entry.L0Entry.TheVariants as l0
 use Rattle.gpt_descriptors.specs.Sizes.{SetupData, word_bytes, table_words, table_bytes, size_bytes, region_bytes, space_bytes}
 use Rattle.gpt_descriptors.specs.Entries.{l0_entry}
 use Rattle.gpt_descriptors.specs.Level0.{is_table, is_table_entry, is_entry_good, are_entries_good, table_count, l1_index}
-use Rattle.gpt_descriptors.specs.Places.{GeometryData, IsGeometry, WordName, IsWordName, l0_word_of, l1_index_of, Lock, Generation, Duty, Level1, Line, place_of, word_count, l1_words, l0_words}
+use Rattle.gpt_descriptors.specs.Places.{GeometryData, IsGeometry, block_gpi_in, block_gpi_of, WordName, IsWordName, l0_word_of, l1_index_of, Lock, Generation, Duty, Level1, Line, place_of, word_count, l1_words, l0_words}
 use Rattle.gpt_descriptors.proofs.SizeLemmas.{table_whole, table_words_low, table_words_high}
 
 -- ---- a good L0 table
@@ -258,6 +258,22 @@ index_by_address g pa address is lt e =
       l1_index_at g.setup (l0_words g) pa ∙ (cond-true (is_table (l0_word_of g pa)) _ _ table
           ∙ ap (λ (n : ℕ). Some (n + pa / word_bytes g.setup % table_words g.setup)) (sym before.1)),
     )
+
+-- an address below a table has an L1 word
+pub index_there : (g : GeometryData) (pa : ℕ) → is_table (l0_word_of g pa) ≡ true → (i : ℕ) × (l1_index_of g pa ≡ Some i)
+index_there g pa table = (
+  table_count (take (pa / region_bytes) (l0_words g)) * table_words g.setup + pa / word_bytes g.setup % table_words g.setup,
+  l1_index_at g.setup (l0_words g) pa ∙ cond-true (is_table (l0_word_of g pa)) _ _ table,
+)
+
+unblocked_entry : (o : Option L0Entry) → IsSome o → block_gpi_in o ≡ None → is_table_entry o ≡ true
+unblocked_entry None there none = absurd cc
+unblocked_entry (Some (l0.Block gpi)) there none = absurd cc
+unblocked_entry (Some (l0.Table address)) there none = refl
+
+-- and so has one inside the space that is in no L0 block
+pub unblocked_index : (g : GeometryData) (pa : ℕ) → IsGeometry g → pa < space_bytes g.setup → block_gpi_of g pa ≡ None → (i : ℕ) × (l1_index_of g pa ≡ Some i)
+unblocked_index g pa is lt none = index_there g pa (unblocked_entry (l0_entry (l0_word_of g pa)) (l0_known g pa is lt) none)
 
 -- an L0 block has no L1 words
 pub index_none : (g : GeometryData) (pa : ℕ) → is_table (l0_word_of g pa) ≡ false → l1_index_of g pa ≡ None

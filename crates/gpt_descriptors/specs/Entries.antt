@@ -12,6 +12,8 @@ use Rattle.gpt_descriptors.specs.declared.entry.L0Entry.{L0Entry}
 use Rattle.gpt_descriptors.specs.declared.entry.L0Entry.TheVariants as l0
 use Rattle.gpt_descriptors.specs.declared.entry.L1Entry.{L1Entry}
 use Rattle.gpt_descriptors.specs.declared.entry.L1Entry.TheVariants as l1
+use Rattle.gpt_descriptors.specs.declared.size.Reach.{Reach}
+use Rattle.gpt_descriptors.specs.Sizes.{reach_with}
 
 -- ---- the spelling of entries
 
@@ -87,6 +89,10 @@ entry_gpi (l1.Contig size gpi) i = Some gpi
 -- checks). A word that is no descriptor has none.
 abbrev pub word_gpi : ℕ → ℕ → Option Gpi
 word_gpi word i = option_and_then (λ entry. entry_gpi entry i) (l1_entry word)
+
+-- how far the entry of an L1 word reaches. A word that is no descriptor has no entry.
+abbrev pub word_reach : ℕ → Option Reach
+word_reach word = option_map reach_with (l1_entry word)
 
 -- the word whose fields are the GPIs of n granules in a row, the first one lowest
 unfoldable pub packed : (ℕ → Gpi) → ℕ → ℕ → ℕ

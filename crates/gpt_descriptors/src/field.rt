@@ -1,8 +1,9 @@
 ghost use Rattle.std.specs.Prelude.{◌≡◌, ◌≢◌, ◌<◌, IsSome, IfSome, IfNone, Some};
 ghost use Rattle.gpi_values.specs.Values.{gpi_with};
-ghost use Rattle.gpt_descriptors.specs.Entries.{l1_entry, word_gpi};
+ghost use Rattle.gpt_descriptors.specs.Entries.{l1_entry, word_gpi, word_reach};
 ghost use Rattle.gpt_descriptors.specs.Fields.{with_field, granules_of, equal_gpi, is_granules};
 
+use crate::size::Reach;
 use gpi_values::{Gpi, gpi_of};
 
 /// A granules word with one of its fields, from 0 to 15, replaced by a four-bit value.
@@ -80,5 +81,21 @@ pub fn l1_field(word: u64, place: u64) -> Gpi
         known_gpi((word >> (4 * place)) % 16)
     } else {
         known_gpi(word / 16 % 16)
+    }
+}
+
+/// How far the entry of a word that is a level 1 descriptor reaches: over its sixteen granules, or
+/// over the block of its size (DDI 0487, GPT level 1 descriptors, field Contig).
+pub fn word_reach(word: u64) -> Reach
+    requires descriptor { IsSome (l1_entry word) }
+    ensures { Some result ≡ word_reach word }
+{
+    if is_granules(word) {
+        return Reach::Word;
+    }
+    match word / 256 {
+        1 => Reach::Two,
+        2 => Reach::ThirtyTwo,
+        _ => Reach::FiveTwelve,
     }
 }

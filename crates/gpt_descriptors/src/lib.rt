@@ -17,7 +17,7 @@ mod size;
 
 pub use canonical::canonical_words_mean_their_map;
 pub use entry::{L0Entry, L1Entry, decode_l0, decode_l1, encode_l0, encode_l1, gpi_at, reach_of};
-pub use field::{equal_gpi, granules_of, is_granules, l1_field, with_field};
+pub use field::{equal_gpi, granules_of, is_granules, l1_field, with_field, word_reach};
 pub use geometry::Geometry;
 pub use gpi_values::{Gpi, Space};
 pub use level0::{count_tables, is_table_word, l0_good};

@@ -1,1 +1,4 @@
 pub mod HistoryLemmas
+pub mod ListLemmas
+pub mod StampLemmas
+pub mod ValueLemmas

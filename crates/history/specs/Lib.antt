@@ -3,3 +3,7 @@ pub mod States
 pub mod Legality
 pub mod Calls
 pub mod Counts
+pub mod Events
+pub mod Values
+pub mod Stamps
+pub mod InnerStamps

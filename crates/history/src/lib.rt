@@ -8,6 +8,7 @@ mod judging;
 mod law;
 mod outcome;
 mod replay;
+mod values;
 
 pub use call::{Access, Answer, Task, Via};
 pub use entry::Entry;
@@ -18,3 +19,4 @@ pub use law::settled_means_final;
 pub use outcome::Outcome;
 pub use region_plan::RunMap;
 pub use replay::Replay;
+pub use values::{saw, values_after, values_mean_their_history};

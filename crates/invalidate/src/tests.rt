@@ -2,7 +2,7 @@ use super::*;
 use gpt_descriptors::{MaxBlock, Setup, l0_good};
 use std::test::Fail;
 
-/// A space of this number of gigabytes, all blocks.
+/// A space of this number of gigabytes, all blocks, with 32 processors.
 fn all_blocks(gigabytes: u64) -> Result<Geometry, Fail> {
     let setup = Setup::new(gigabytes, MaxBlock::Zero, 0, 0, 1, 0, 0).ok_or("refused")?;
     let l0 = [0xf1; 64];
@@ -10,7 +10,7 @@ fn all_blocks(gigabytes: u64) -> Result<Geometry, Fail> {
     if !l0_good(&setup, l0) {
         return Err("a bad table")?;
     }
-    Ok(Geometry::new(setup, 1, l0))
+    Ok(Geometry::new(setup, 32, l0))
 }
 
 #[test]
@@ -45,6 +45,19 @@ fn generations_stand_where_they_were_worked_out_by_hand(rt: HostRuntime) -> Resu
             Act::Store(place, 7),
             "of {pa:#x}"
         );
+    }
+    Ok(())
+}
+
+#[test]
+fn duty_words_stand_after_the_generations(rt: HostRuntime) -> Result<(), Fail> {
+    // Gigabytes, processor and place: 2 locks and 546 generations for each gigabyte come first.
+    let table = [(4, 0, 2186), (4, 31, 2217), (64, 0, 34946), (64, 31, 34977)];
+    for (gigabytes, cpu, place) in table {
+        let geometry = all_blocks(gigabytes)?;
+        assert!(rt; cpu < geometry.cpus());
+        assert_eq!(rt; on(&geometry, cpu), Act::Store(place, 1), "of {cpu}");
+        assert_eq!(rt; off(&geometry, cpu), Act::Store(place, 0), "of {cpu}");
     }
     Ok(())
 }

@@ -1,4 +1,5 @@
-use Rattle.core_machine.proofs.CallerLaws.{acts_have_places, acts_keep, agents_go_on}
+use Rattle.core_machine.proofs.LawLemmas.{acts_have_places}
+use Rattle.core_machine.proofs.CallerLaws.{acts_keep, agents_go_on}
 use Rattle.core_machine.proofs.law.callers_keep_to_their_words.Goals as goal
 
 pub returns-clause-places : goal.returns-clause-places

@@ -1,9 +1,9 @@
 use Rattle.std.proofs.Common.{sym, ◌∙◌, subst}
 use Rattle.std.specs.List.{All}
-use Rattle.core_machine.specs.InnerOpening.{IsFresh}
 use Rattle.core_machine.proofs.PlayLemmas.{callers_fresh, starts_at, opened_is}
 use Rattle.core_machine.proofs.played.open.Goals as goal
 use Rattle.core_machine.specs.Scenarios.{first_map}
+use Rattle.core_machine.specs.InnerCallers.{IsFresh}
 
 pub new-requires-2-clause-fresh : goal.new-requires-2-clause-fresh
 new-requires-2-clause-fresh c =

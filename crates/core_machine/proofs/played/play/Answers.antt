@@ -5,14 +5,15 @@ use Rattle.scenario_text.specs.declared.scenario.Script.{Script}
 use Rattle.history.specs.declared.outcome.Outcome.{Outcome}
 use Rattle.std.specs.List.{All, flat_map}
 use Rattle.scenario_text.specs.declared.scenario.Slot.{Slot}
-use Rattle.core_machine.specs.InnerMachine.{MachineData, InvariantFor, after_turns, entries_in}
-use Rattle.core_machine.specs.InnerPlay.{caller_of, NamesCaller, played, outcome_of, opening_of}
+use Rattle.core_machine.specs.InnerMachine.{MachineData, InvariantFor, after_turns}
+use Rattle.core_machine.specs.Trace.{history_of}
+use Rattle.core_machine.specs.InnerPlay.{caller_of, NamesCaller, played_trace, outcome_of}
 use Rattle.core_machine.proofs.PlayLemmas.{names_at, played_is, played_stands}
 use Rattle.core_machine.proofs.MachineLemmas.{length_so}
-use Rattle.core_machine.proofs.RunLemmas.{run_left}
-use Rattle.core_machine.proofs.FitLemmas.{size_of, answers_of}
+use Rattle.core_machine.proofs.RunLemmas.{run_left, run_size}
+use Rattle.core_machine.proofs.FitLemmas.{answers_of}
 use Rattle.core_machine.proofs.played.play.Goals as goal
-use Rattle.core_machine.specs.Scenarios.{first_map, geometry_of, slot_turns, turns_in}
+use Rattle.core_machine.specs.Scenarios.{first_map, geometry_of, slot_turns}
 
 pub schedule-requires-clause-names : goal.schedule-requires-clause-names
 schedule-requires-clause-names c =
@@ -40,10 +41,9 @@ returns-clause-run c =
 
 pub returns-clause-size : goal.returns-clause-size
 returns-clause-size c =
-    size_of (played c.args.scenario.now) (first_map c.args.scenario.now) (entries_in (opening_of c.args.scenario.now) (turns_in c.args.scenario.now)) (let r : Result Outcome ℕ = Ok c.leave.result in r)
-    (played_stands c.args.scenario.now c.in_ok-machine.machine c.in_ok-machine.ensures.machine c.in_ok-machine.ensures.invariant) (returns-clause-trace c)
+    run_size c.args.scenario.now (let r : Result Outcome ℕ = Ok c.leave.result in r) (returns-clause-run c)
 
 pub returns-clause-answered : goal.returns-clause-answered
 returns-clause-answered c =
-    answers_of c.args.scenario.now (first_map c.args.scenario.now) (entries_in (opening_of c.args.scenario.now) (turns_in c.args.scenario.now)) (let r : Result Outcome ℕ = Ok c.leave.result in r)
+    answers_of c.args.scenario.now (first_map c.args.scenario.now) (history_of (played_trace c.args.scenario.now)) (let r : Result Outcome ℕ = Ok c.leave.result in r)
     (played_stands c.args.scenario.now c.in_ok-machine.machine c.in_ok-machine.ensures.machine c.in_ok-machine.ensures.invariant) (returns-clause-trace c)

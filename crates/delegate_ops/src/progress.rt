@@ -1,0 +1,414 @@
+ghost use Rattle.std.specs.Prelude.{◌≡◌, ◌+◌, ◌^◌, ◌<◌, ◌≤◌, ◌==◌, not, if◌then◌else◌, IsSome, IsTrue, is_some, None};
+ghost use Rattle.std.specs.Int.Bits.{bit_and};
+ghost use Rattle.gpt_descriptors.specs.Entries.{l1_entry, word_gpi};
+ghost use Rattle.gpt_descriptors.specs.Places.{GeometryData, l1_index_of};
+ghost use Rattle.shatter.specs.Splitting.{next_store, advanced};
+ghost use Rattle.shared_words.specs.Next.{old_by, words_after, MayBeMade};
+ghost use Rattle.fuse.specs.Merging.{took_of, next_of, fuse_of};
+ghost use Rattle.delegate_ops.specs.Deciding.{address_of, idle_answer, refusal_of, worn_answer};
+ghost use Rattle.delegate_ops.specs.InnerStages.{stage_of, waits_in, kept_read};
+ghost use Rattle.delegate_ops.specs.InnerStages as stage;
+ghost use Rattle.delegate_ops.specs.declared.stage.Phase.TheVariants as the_phase;
+ghost use Rattle.delegate_ops.specs.InnerAgents.{IsReadable, number_of, looked_stage, loaded_stage, read_all, read_stage, split_stage, merged_stage, raised_stage, stage_after};
+ghost use Rattle.delegate_ops.specs.InnerRuns.{IsStoring, MakesRun};
+ghost use Rattle.delegate_ops.specs.declared.places.Places.{Places as ThePlaces};
+ghost use Rattle.delegate_ops.specs.InnerTransition.{IsTransition, act_by, answer_by, after_by, at_progress, turned_by, GoesTo};
+
+use crate::blocks::{merging_of, splitting_of};
+use crate::changing::{changed_word, first_change};
+use crate::deciding::{is_needed, worn_size};
+use crate::places::Places;
+use crate::stage::{Change, Ending, Kept, Phase};
+use bit_locks::{Bit, drop_act, take, was_free};
+use fuse::{Fuse, has_acts};
+use gpt_descriptors::{Geometry, Gpi, L1Entry, Size, decode_l1, granules_of, l1_field};
+use history::{Answer, Task};
+use shared_words::{Act, StoreRun, Words};
+use shatter::Splitting;
+
+/// What a turn of a transition was.
+#[derive(Clone, Copy, Debug, PartialEq, Eq)]
+pub enum Turned {
+    /// It had waited for its lock, and waits again.
+    Still,
+    /// It goes on, or begins to wait.
+    Goes,
+    /// It released its lock.
+    Ends,
+}
+
+/// Whether a lock that was tried wasn't free, by what that act answered.
+fn is_held(lock: Bit, old: u64) -> bool
+    ensures { result ≡ not (bit_and old lock.mask == 0) }
+{
+    !was_free(lock, old)
+}
+
+/// How far a transition has come, with what it keeps. It takes no memory.
+#[derive(Debug, Drop)]
+pub struct Progress {
+    phase: Phase,
+    kept: Kept,
+    /// The splitting that it makes, or has made last.
+    splitting: Splitting,
+    /// The merging that it makes, or has made last.
+    merging: Fuse,
+}
+
+impl Progress {
+    /// Before the first act of a task with acts.
+    pub fn new(geometry: &Geometry, task: Task) -> Progress
+        requires { idle_answer geometry.now task ≡ None }
+        ensures { GoesTo result stage.Locking }
+    {
+        Progress {
+            phase: Phase::Locking,
+            kept: Kept::new(0),
+            splitting: splitting_of(geometry, task, Size::Two, Gpi::NoAccess),
+            merging: merging_of(geometry, task, 0),
+        }
+    }
+
+    /// Before the first act of the next task.
+    pub fn restart(&mut self)
+        ensures { GoesTo self.new stage.Locking }
+    {
+        self.phase = Phase::Locking;
+    }
+
+    /// Whether the last act was a lock that wasn't free.
+    pub fn waits(&self) -> bool
+        ensures { result ≡ waits_in self.now.phase }
+    {
+        matches!(self.phase, Phase::Waiting)
+    }
+
+    /// The answer with which the next act, the release of the lock, ends the transition.
+    pub fn answer(&self) -> Option<Answer>
+        ensures { result ≡ answer_by (stage_of self.now) }
+    {
+        match self.phase {
+            Phase::Releasing(ending) => Some(ending.answer(self.kept.generations)),
+            _ => None,
+        }
+    }
+
+    /// The next act.
+    pub fn next(&self, places: &Places, task: Task) -> Option<Act>
+        requires { (g : GeometryData) × IsTransition g (at_progress task places.now self.now) }
+        ensures { result ≡ act_by places.now (stage_of self.now) task }
+    {
+        match self.phase {
+            Phase::Locking | Phase::Waiting => Some(take(places.lock)),
+            Phase::Looking => Some(Act::Load(places.word)),
+            Phase::Reading(size) => Some(Act::Load(places.generation(size))),
+            Phase::Splitting(_) => self.splitting.next(),
+            Phase::Changing(change) => {
+                let word = changed_word(task, change, places.field, self.kept.word);
+                Some(Act::Store(places.word, word))
+            }
+            Phase::Raising(_, size) => {
+                let raised = self.kept.generations.get(size) + 1;
+                Some(Act::Store(places.generation(size), raised))
+            }
+            Phase::Merging => self.merging.next(),
+            Phase::Releasing(_) => Some(drop_act(places.lock)),
+        }
+    }
+
+    /// The lock was tried, and was free or wasn't.
+    fn locked(&mut self, is_held: bool)
+        ensures stage { stage_of self.new ≡ (if is_held then stage.Locking else stage.Looking) }
+        ensures waits { waits_in self.new.phase ≡ is_held }
+    {
+        self.phase = if is_held {
+            Phase::Waiting
+        } else {
+            Phase::Looking
+        };
+    }
+
+    /// The L1 word was loaded, which has the granule at this field.
+    fn looked(&mut self, task: Task, field: u64, word: u64)
+        requires descriptor { IsTrue (is_some (l1_entry word)) }
+        requires field { field < 16 }
+        ensures { GoesTo self.new (looked_stage (refusal_of task (word_gpi word field)) word) }
+    {
+        let found = l1_field(word, field);
+        if is_needed(task, found) {
+            self.kept = Kept::new(word);
+            self.phase = Phase::Reading(Size::Two);
+        } else {
+            self.phase = Phase::Releasing(Ending::Refused(found));
+        }
+    }
+
+    /// All generations were loaded, and none is exhausted.
+    fn loaded(&mut self, geometry: &Geometry, task: Task)
+        requires descriptor { IsTrue (is_some (l1_entry self.old.kept.word)) }
+        requires acts { idle_answer geometry.now task ≡ None }
+        ensures { GoesTo self.new
+            (loaded_stage geometry.now task (l1_entry self.old.kept.word) self.old.kept) }
+    {
+        self.phase = match decode_l1(self.kept.word) {
+            Some(L1Entry::Contig(size, gpi)) => {
+                self.splitting = splitting_of(geometry, task, size, gpi);
+                Phase::Splitting(size)
+            }
+            _ => Phase::Changing(first_change(task)),
+        };
+    }
+
+    /// All generations were loaded.
+    fn all_read(&mut self, geometry: &Geometry, task: Task)
+        requires descriptor { IsTrue (is_some (l1_entry self.old.kept.word)) }
+        requires acts { idle_answer geometry.now task ≡ None }
+        ensures { GoesTo self.new
+            (read_all geometry.now (worn_answer self.old.kept.generations) task self.old.kept) }
+    {
+        match worn_size(self.kept.generations) {
+            Some(size) => self.phase = Phase::Releasing(Ending::Worn(size)),
+            None => self.loaded(geometry, task),
+        }
+    }
+
+    /// The generation of this size was loaded.
+    fn read(&mut self, geometry: &Geometry, task: Task, size: Size, value: u64)
+        requires descriptor { IsTrue (is_some (l1_entry self.old.kept.word)) }
+        requires acts { idle_answer geometry.now task ≡ None }
+        ensures { GoesTo self.new
+            (read_stage geometry.now task size (kept_read size value self.old.kept)) }
+    {
+        self.kept.note(size, value);
+        match size {
+            Size::Two => self.phase = Phase::Reading(Size::ThirtyTwo),
+            Size::ThirtyTwo => self.phase = Phase::Reading(Size::FiveTwelve),
+            Size::FiveTwelve => self.all_read(geometry, task),
+        }
+    }
+
+    /// Some stores of the splitting of a block of this size were made.
+    fn settle_split(&mut self, task: Task, size: Size)
+        requires { self.old.phase ≡ the_phase.Splitting size }
+        ensures { GoesTo self.new
+            (split_stage task size self.old.splitting self.old.kept.generations) }
+    {
+        if self.splitting.is_over() {
+            self.kept.word = granules_of(self.splitting.gpi());
+            self.phase = Phase::Changing(first_change(task));
+        }
+    }
+
+    /// A store of the splitting of a block of this size was made.
+    fn split(&mut self, task: Task, size: Size)
+        requires phase { self.old.phase ≡ the_phase.Splitting size }
+        requires store { IsSome (next_store self.old.splitting) }
+        ensures { GoesTo self.new
+            (split_stage task size (advanced self.old.splitting) self.old.kept.generations) }
+    {
+        self.splitting.advance();
+        self.settle_split(task, size);
+    }
+
+    /// The L1 word was written with this change.
+    fn changed(&mut self, change: Change, word: u64)
+        ensures { GoesTo self.new
+            (stage.Raising change Size.Two (record {
+              word = word;
+              generations = self.old.kept.generations;
+            })) }
+    {
+        self.kept.word = word;
+        self.phase = Phase::Raising(change, Size::Two);
+    }
+
+    /// Merging goes on, or the lock is to be released.
+    fn settle(&mut self)
+        ensures { GoesTo self.new (merged_stage self.old.merging self.old.kept.generations) }
+    {
+        self.phase = if self.merging.next().is_some() {
+            Phase::Merging
+        } else {
+            Phase::Releasing(Ending::Done)
+        };
+    }
+
+    /// The last change is complete: merging begins, where it has acts.
+    #[tactic(auto, using(fuse::proofs::StartLemmas::without_acts))]
+    fn merge(&mut self, geometry: &Geometry, task: Task)
+        requires { idle_answer geometry.now task ≡ None }
+        ensures { GoesTo self.new (merged_stage (fuse_of geometry.now
+            (number_of (l1_index_of geometry.now (address_of task))) self.old.kept.word)
+            self.old.kept.generations) }
+    {
+        if has_acts(geometry.setup().max(), self.kept.word) {
+            self.merging = merging_of(geometry, task, self.kept.word);
+            self.settle();
+        } else {
+            self.phase = Phase::Releasing(Ending::Done);
+        }
+    }
+
+    /// The generation of this size was raised to this value after a change.
+    fn raised(&mut self, geometry: &Geometry, task: Task, change: Change, size: Size, raised: u64)
+        requires { idle_answer geometry.now task ≡ None }
+        ensures { GoesTo self.new
+            (raised_stage geometry.now task change size (kept_read size raised self.old.kept)) }
+    {
+        self.kept.note(size, raised);
+        match (size, change) {
+            (Size::Two, _) => self.phase = Phase::Raising(change, Size::ThirtyTwo),
+            (Size::ThirtyTwo, _) => self.phase = Phase::Raising(change, Size::FiveTwelve),
+            (Size::FiveTwelve, Change::First) => self.phase = Phase::Changing(Change::Last),
+            (Size::FiveTwelve, Change::Last) => self.merge(geometry, task),
+        }
+    }
+
+    /// An act of merging was made, and answered `old`.
+    fn merged(&mut self, old: u64)
+        requires { IsSome (next_of self.old.merging) }
+        ensures { GoesTo self.new
+            (merged_stage (took_of self.old.merging old) self.old.kept.generations) }
+    {
+        self.merging.took(old);
+        self.settle();
+    }
+
+    /// Takes note that the next act was made and answered `old`, where it isn't the release of the
+    /// lock.
+    pub fn took(&mut self, geometry: &Geometry, places: &Places, task: Task, old: u64)
+        requires transition { IsTransition geometry.now (at_progress task places.now self.old) }
+        requires readable { IsReadable (stage_of self.old) old }
+        requires goes { answer_by (stage_of self.old) ≡ None }
+        ensures { at_progress task places.now self.new
+            ≡ after_by geometry.now (at_progress task places.now self.old) old }
+    {
+        match self.phase {
+            Phase::Locking | Phase::Waiting => self.locked(is_held(places.lock, old)),
+            Phase::Looking => self.looked(task, places.field, old),
+            Phase::Reading(size) => self.read(geometry, task, size, old),
+            Phase::Splitting(size) => self.split(task, size),
+            Phase::Changing(change) => {
+                let word = changed_word(task, change, places.field, self.kept.word);
+                self.changed(change, word);
+            }
+            Phase::Raising(change, size) => {
+                let value = self.kept.generations.get(size) + 1;
+                self.raised(geometry, task, change, size, value);
+            }
+            Phase::Merging => self.merged(old),
+            Phase::Releasing(_) => {}
+        }
+    }
+
+    /// The next stores of a splitting or of merging, at most this number, as one run. They were
+    /// made. The run is empty where the next act isn't such a store.
+    pub fn take_run(&mut self, task: Task, most: usize) -> StoreRun
+        ensures run { (p : ThePlaces)
+            → MakesRun (at_progress task p self.old) result (at_progress task p self.new) }
+        ensures most { result.count ≤ most }
+        ensures some { (g : GeometryData) (p : ThePlaces)
+            → IsTransition g (at_progress task p self.old) → 0 < most
+            → IsStoring (stage_of self.old) → 0 < result.count }
+        ensures room { result.first + result.count < 2 ^ 64 }
+    {
+        match self.phase {
+            Phase::Splitting(size) => {
+                let run = self.splitting.take_run(most);
+                if run.count > 0 {
+                    self.settle_split(task, size);
+                }
+                run
+            }
+            Phase::Merging => {
+                let run = self.merging.take_run(most);
+                if run.count > 0 {
+                    self.settle();
+                }
+                run
+            }
+            _ => StoreRun::empty(),
+        }
+    }
+
+    /// The next act, made on the words, with what comes of it.
+    pub fn turn<W: Words>(
+        &mut self,
+        geometry: &Geometry,
+        places: &Places,
+        task: Task,
+        words: &mut W,
+    ) -> Turned
+        requires transition { IsTransition geometry.now (at_progress task places.now self.old) }
+        requires place { MayBeMade (act_by places.now (stage_of self.old) task) (W.words words.old) }
+        requires readable { IsReadable (stage_of self.old)
+            (old_by (act_by places.now (stage_of self.old) task) (W.words words.old)) }
+        ensures words { W.words words.new
+            ≡ words_after (act_by places.now (stage_of self.old) task) (W.words words.old) }
+        ensures after { at_progress task places.now self.new
+            ≡ after_by geometry.now (at_progress task places.now self.old)
+            (old_by (act_by places.now (stage_of self.old) task) (W.words words.old)) }
+        ensures turned { result ≡ turned_by (at_progress task places.now self.old)
+            (old_by (act_by places.now (stage_of self.old) task) (W.words words.old)) }
+    {
+        match self.phase {
+            Phase::Locking => {
+                let old = words.apply(take(places.lock));
+                self.locked(is_held(places.lock, old));
+            }
+            Phase::Waiting => {
+                let old = words.apply(take(places.lock));
+                let again = is_held(places.lock, old);
+                self.locked(again);
+                if again {
+                    return Turned::Still;
+                }
+            }
+            Phase::Looking => {
+                let word = words.apply(Act::Load(places.word));
+                self.looked(task, places.field, word);
+            }
+            Phase::Reading(size) => {
+                let value = words.apply(Act::Load(places.generation(size)));
+                self.read(geometry, task, size, value);
+            }
+            Phase::Splitting(size) => {
+                if let Some(store) = self.splitting.next() {
+                    words.apply(store);
+                    self.split(task, size);
+                }
+            }
+            Phase::Changing(change) => {
+                let word = changed_word(task, change, places.field, self.kept.word);
+                words.apply(Act::Store(places.word, word));
+                self.changed(change, word);
+            }
+            Phase::Raising(change, size) => {
+                let value = self.kept.generations.get(size) + 1;
+                words.apply(Act::Store(places.generation(size), value));
+                self.raised(geometry, task, change, size, value);
+            }
+            Phase::Merging => {
+                if let Some(act) = self.merging.next() {
+                    let old = words.apply(act);
+                    self.merged(old);
+                }
+            }
+            Phase::Releasing(_) => {
+                words.apply(drop_act(places.lock));
+                return Turned::Ends;
+            }
+        }
+        Turned::Goes
+    }
+}
+
+#[cfg(test)]
+impl Progress {
+    /// Whether the next act may answer `old`: one that looks at an L1 word answers a descriptor.
+    pub fn may_take(&self, old: u64) -> bool
+        ensures { IsTrue result → IsReadable (stage_of self.now) old }
+    {
+        !matches!(self.phase, Phase::Looking) || decode_l1(old).is_some()
+    }
+}

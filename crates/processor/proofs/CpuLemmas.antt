@@ -1,0 +1,222 @@
+-- Processors after an act are processors, one with an access left has a next act, and acts keep to the words of the geometry.
+use Rattle.std.proofs.Common.{◌≡◌, ℕ, zero, suc, ◌+◌, ◌/◌, ◌≤◌, ◌<◌, ◌⊎◌, ◌++◌, ◌∷◌, [], List, true, not, Some, None, Option, length, drop, refl, sym, ap, ◌∙◌, subst, arith, inl, inr, length-append, length-drop}
+use Rattle.std.specs.Prelude.{slice_get, is_some}
+use Rattle.std.specs.Option.{option_map}
+use Rattle.std.proofs.lemmas.Option.{slice_get_within, get_or_from_slice_get}
+use Rattle.gpi_values.specs.declared.gpi.Space.{Space}
+use Rattle.gpt_descriptors.specs.Sizes.{size_bytes, space_bytes, tag_size_of}
+use Rattle.gpt_descriptors.specs.Places.{GeometryData, IsGeometry, WordName, IsWordName, Generation, Duty, Level1, place_of, word_count, l1_index_of, l1_place_of, gen_place_of, block_gpi_of}
+use Rattle.gpt_descriptors.proofs.PlaceLemmas.{generation_named, index_within, place_below, unblocked_index}
+use Rattle.shared_words.specs.declared.act.Act.{Act}
+use Rattle.shared_words.specs.declared.act.Act.TheVariants as act
+use Rattle.shared_words.specs.Acts.{place_in}
+use Rattle.history.specs.declared.call.Task.{Task}
+use Rattle.history.specs.declared.call.Task.TheVariants as task
+use Rattle.history.specs.declared.call.Answer.{Answer}
+use Rattle.processor.specs.InnerProgress.{Stage}
+use Rattle.processor.specs.InnerProgress as stage
+use Rattle.processor.specs.Accesses.{IsAccess, block_answer}
+use Rattle.processor.specs.InnerProgress.{act_at, after_at, answer_at}
+use Rattle.processor.specs.InnerCpus.{CpuData, IsCpu, IsAt, HasActs, task_of, idle_answer, answered_first, idle_answers, has_ended, next_at, next_of, after_answer, ends_or_goes, took_at, took_of}
+
+-- ---- the answers of accesses without acts
+
+first_few : (o : Option Answer) (answers : List Answer) (n : ℕ) → length answers ≤ n → length (answered_first o answers) ≤ suc n
+first_few None answers n few = omega arith
+first_few (Some a) answers n few = omega (arith, few)
+
+idle_few : (g : GeometryData) (tasks : List Task) → length (idle_answers g tasks) ≤ length tasks
+idle_few g [] = omega arith
+idle_few g (t ∷ tasks) = first_few (idle_answer g t) (idle_answers g tasks) (length tasks) (idle_few g tasks)
+
+first_acts : (g : GeometryData) (t : Task) (tasks : List Task) (o : Option Answer) → idle_answer g t ≡ o → HasActs g (slice_get tasks (length (idle_answers g tasks)))
+    → HasActs g (slice_get (t ∷ tasks) (length (answered_first o (idle_answers g tasks))))
+first_acts g t tasks None e acts = e
+first_acts g t tasks (Some a) e acts = acts
+
+-- the task after them has acts
+idle_then_acts : (g : GeometryData) (tasks : List Task) → HasActs g (slice_get tasks (length (idle_answers g tasks)))
+idle_then_acts g [] = tt
+idle_then_acts g (t ∷ tasks) = first_acts g t tasks (idle_answer g t) refl (idle_then_acts g tasks)
+
+get_drop : (tasks : List Task) (n i : ℕ) → slice_get (drop n tasks) i ≡ slice_get tasks (n + i)
+get_drop tasks zero i = ap (slice_get tasks) (let e : i ≡ 0 + i = omega arith in e)
+get_drop [] (suc n) i = refl
+get_drop (t ∷ tasks) (suc n) i = get_drop tasks n i ∙ ap (slice_get (t ∷ tasks)) (let e : suc (n + i) ≡ suc n + i = omega arith in e)
+
+-- ---- steps
+
+starts_at : (o : Option Task) → IsAt o stage.Starting
+starts_at None = refl
+starts_at (Some t) = tt
+
+answer_is_cpu : (q : CpuData) (t : Task) (answer : Answer) → IsCpu q → task_of q ≡ Some t → IsCpu (after_answer q answer)
+answer_is_cpu q t answer is under_way =
+    let within : length q.answers < length q.tasks = slice_get_within q.tasks (length q.answers) t under_way in
+    let rest = drop (length q.answers + 1) q.tasks in
+    let count : length ((q.answers ++ answer ∷ []) ++ idle_answers q.geometry rest) ≡ length q.answers + 1 + length (idle_answers q.geometry rest) =
+    length-append (q.answers ++ answer ∷ []) (idle_answers q.geometry rest) ∙ ap (λ (n : ℕ). n + length (idle_answers q.geometry rest)) (length-append q.answers (answer ∷ [])) in
+    record {
+      geometry = is.geometry;
+      number = is.number;
+      accesses = is.accesses;
+      answered = omega (arith, count, within, idle_few q.geometry rest, length-drop (length q.answers + 1) q.tasks);
+      acts = subst (HasActs q.geometry) (get_drop q.tasks (length q.answers + 1) (length (idle_answers q.geometry rest)) ∙ ap (slice_get q.tasks) (sym count)) (idle_then_acts q.geometry rest);
+      stage = starts_at (task_of (after_answer q answer));
+    }
+
+ends_is_cpu : (q : CpuData) (t : Task) (o : Option Answer) (s : Stage) → IsCpu q → task_of q ≡ Some t → IsCpu (ends_or_goes q o s)
+ends_is_cpu q t (Some answer) s is under_way = answer_is_cpu q t answer is under_way
+ends_is_cpu q t None s is under_way = record {
+  geometry = is.geometry;
+  number = is.number;
+  accesses = is.accesses;
+  answered = is.answered;
+  acts = is.acts;
+  stage = subst (λ (o : Option Task). IsAt o s) (sym under_way) tt;
+}
+
+took_at_is_cpu : (q : CpuData) (o : Option Task) (old : ℕ) → task_of q ≡ o → IsCpu q → IsCpu (took_at q o old)
+took_at_is_cpu q None old under_way is = is
+took_at_is_cpu q (Some (task.Look pa space)) old under_way is = ends_is_cpu q _ (answer_at space q.stage) _ is under_way
+took_at_is_cpu q (Some (task.Delegate pa source)) old under_way is = is
+took_at_is_cpu q (Some (task.Undelegate pa source)) old under_way is = is
+took_at_is_cpu q (Some task.Unknown) old under_way is = is
+
+-- an act leaves a processor one, with its geometry, its number and its tasks
+pub took_is_cpu : (q : CpuData) (old : ℕ) → IsCpu q → IsCpu (took_of q old)
+took_is_cpu q old is = took_at_is_cpu q (task_of q) old refl is
+
+ends_keeps : (q : CpuData) (o : Option Answer) (s : Stage)
+    → ((ends_or_goes q o s).geometry ≡ q.geometry) × ((ends_or_goes q o s).number ≡ q.number) × ((ends_or_goes q o s).tasks ≡ q.tasks)
+ends_keeps q None s = (refl, refl, refl)
+ends_keeps q (Some answer) s = (refl, refl, refl)
+
+took_at_keeps : (q : CpuData) (o : Option Task) (old : ℕ)
+    → ((took_at q o old).geometry ≡ q.geometry) × ((took_at q o old).number ≡ q.number) × ((took_at q o old).tasks ≡ q.tasks)
+took_at_keeps q None old = (refl, refl, refl)
+took_at_keeps q (Some (task.Look pa space)) old = ends_keeps q (answer_at space q.stage) (after_at q.geometry pa q.stage old)
+took_at_keeps q (Some (task.Delegate pa source)) old = (refl, refl, refl)
+took_at_keeps q (Some (task.Undelegate pa source)) old = (refl, refl, refl)
+took_at_keeps q (Some task.Unknown) old = (refl, refl, refl)
+
+pub took_keeps : (q : CpuData) (old : ℕ) → ((took_of q old).geometry ≡ q.geometry) × ((took_of q old).number ≡ q.number) × ((took_of q old).tasks ≡ q.tasks)
+took_keeps q old = took_at_keeps q (task_of q) old
+
+-- ---- the access under way
+
+-- each task is an access inside the space
+pub access_at : (q : CpuData) (t : Task) → IsCpu q → task_of q ≡ Some t → IsAccess q.geometry t
+access_at q t is under_way =
+    subst (IsAccess q.geometry) (get_or_from_slice_get q.tasks (length q.answers) t t under_way)
+    (is.accesses (length q.answers) t (slice_get_within q.tasks (length q.answers) t under_way))
+
+mapped_none : {X Y : Type 0} (f : X → Y) (o : Option X) → option_map f o ≡ None → o ≡ None
+mapped_none f None e = refl
+mapped_none f (Some x) e = absurd cc
+
+pub acts_at : (q : CpuData) (t : Task) → IsCpu q → task_of q ≡ Some t → idle_answer q.geometry t ≡ None
+acts_at q t is under_way = subst (HasActs q.geometry) under_way is.acts
+
+-- an access with acts is in no L0 block, so it has an L1 word
+pub look_unblocked : (g : GeometryData) (pa : ℕ) (space : Space) → idle_answer g (task.Look pa space) ≡ None → block_gpi_of g pa ≡ None
+look_unblocked g pa space acts = mapped_none (block_answer space) (block_gpi_of g pa) acts
+
+pub look_place : (g : GeometryData) (pa : ℕ) (space : Space) → IsGeometry g → IsAccess g (task.Look pa space) → idle_answer g (task.Look pa space) ≡ None
+    → (place : ℕ) × (l1_place_of g pa ≡ Some place)
+look_place g pa space is inside acts =
+    let there = unblocked_index g pa is inside (look_unblocked g pa space acts) in (place_of g (Level1 there.0), rw there.1 refl)
+
+-- ---- a next act is there
+
+act_there : (g : GeometryData) (p pa place : ℕ) (s : Stage) → l1_place_of g pa ≡ Some place → is_some (act_at g p pa s) ≡ true
+act_there g p pa place stage.Starting there = refl
+act_there g p pa place (stage.Loading z k) there = refl
+act_there g p pa place (stage.Walking k) there = rw there refl
+act_there g p pa place (stage.Closing w) there = refl
+act_there g p pa place (stage.Leaving w hi) there = refl
+
+next_at_there : (q : CpuData) (o : Option Task) → IsCpu q → task_of q ≡ o → is_some (next_at q o) ≡ is_some o
+next_at_there q None is under_way = refl
+next_at_there q (Some (task.Look pa space)) is under_way =
+    let there = look_place q.geometry pa space is.geometry (access_at q (task.Look pa space) is under_way) (acts_at q (task.Look pa space) is under_way) in
+    act_there q.geometry q.number pa there.0 q.stage there.1
+next_at_there q (Some (task.Delegate pa source)) is under_way = absurd (access_at q (task.Delegate pa source) is under_way)
+next_at_there q (Some (task.Undelegate pa source)) is under_way = absurd (access_at q (task.Undelegate pa source) is under_way)
+next_at_there q (Some task.Unknown) is under_way = absurd (access_at q task.Unknown is under_way)
+
+-- an access under way has a next act
+pub look_acts : (q : CpuData) (pa : ℕ) (space : Space) → IsCpu q → task_of q ≡ Some (task.Look pa space) → is_some (act_at q.geometry q.number pa q.stage) ≡ true
+look_acts q pa space is under_way = next_at_there q (Some (task.Look pa space)) is under_way
+
+pub look_made : (q : CpuData) (pa : ℕ) (space : Space) → IsCpu q → task_of q ≡ Some (task.Look pa space) → is_some (next_of q) ≡ true
+look_made q pa space is under_way = ap (λ (o : Option Task). is_some (next_at q o)) under_way ∙ look_acts q pa space is under_way
+
+not_not : {X : Type 0} (o : Option X) → is_some o ≡ not (not (is_some o))
+not_not None = refl
+not_not (Some x) = refl
+
+-- exactly where an access is left
+pub next_there : (q : CpuData) → IsCpu q → is_some (next_of q) ≡ not (has_ended q)
+next_there q is = next_at_there q (task_of q) is refl ∙ not_not (task_of q)
+
+-- it is that of the access under way
+pub look_next : (q : CpuData) (pa : ℕ) (space : Space) → task_of q ≡ Some (task.Look pa space) → next_of q ≡ act_at q.geometry q.number pa q.stage
+look_next q pa space under_way = rw under_way refl
+
+-- ---- places
+
+pub some_mapped : {X Y : Type 0} (f : X → Y) (o : Option X) (y : Y) → option_map f o ≡ Some y → (x : X) × (o ≡ Some x) × (f x ≡ y)
+some_mapped f None y e = absurd cc
+some_mapped f (Some x) y e = (x, refl, cc)
+
+-- the act is made on this word
+abbrev IsOn : GeometryData → Act → WordName → Type 0
+IsOn g next n = IsWordName g n × (place_in next ≡ place_of g n)
+
+act_word : (g : GeometryData) (p pa : ℕ) (s : Stage) (next : Act) → IsGeometry g → p < g.cpus → pa < space_bytes g.setup → act_at g p pa s ≡ Some next → (n : WordName) × IsOn g next n
+act_word g p pa stage.Starting next is cpu inside e = (Duty p, (cpu, let same : place_of g (Duty p) ≡ place_in next = cc in sym same))
+act_word g p pa (stage.Loading z k) next is cpu inside e =
+    let same : act.Load (place_of g (Generation z (pa / size_bytes z))) ≡ next = cc in (Generation z (pa / size_bytes z), (generation_named g z pa inside, ap place_in (sym same)))
+act_word g p pa (stage.Walking k) next is cpu inside e =
+    let load = some_mapped act.Load (l1_place_of g pa) next e in
+    let index = some_mapped (λ (i : ℕ). place_of g (Level1 i)) (l1_index_of g pa) load.0 load.1 in
+    (Level1 index.0, (index_within g pa index.0 is index.1, ap place_in (sym load.2) ∙ sym index.2))
+act_word g p pa (stage.Closing w) next is cpu inside e =
+    let z = tag_size_of w.reach in
+    let same : act.Load (place_of g (Generation z (pa / size_bytes z))) ≡ next = cc in (Generation z (pa / size_bytes z), (generation_named g z pa inside, ap place_in (sym same)))
+act_word g p pa (stage.Leaving w hi) next is cpu inside e = (Duty p, (cpu, let same : place_of g (Duty p) ≡ place_in next = cc in sym same))
+
+act_writes : (g : GeometryData) (p pa : ℕ) (s : Stage) (next : Act) → act_at g p pa s ≡ Some next → (next ≡ act.Load (place_in next)) ⊎ (place_in next ≡ place_of g (Duty p))
+act_writes g p pa stage.Starting next e = let same : place_of g (Duty p) ≡ place_in next = cc in inr (sym same)
+act_writes g p pa (stage.Loading z k) next e = let same : act.Load (gen_place_of g z pa) ≡ next = cc in rw (← same) (inl refl)
+act_writes g p pa (stage.Walking k) next e = let load = some_mapped act.Load (l1_place_of g pa) next e in rw (← load.2) (inl refl)
+act_writes g p pa (stage.Closing w) next e = let same : act.Load (gen_place_of g (tag_size_of w.reach) pa) ≡ next = cc in rw (← same) (inl refl)
+act_writes g p pa (stage.Leaving w hi) next e = let same : place_of g (Duty p) ≡ place_in next = cc in inr (sym same)
+
+next_at_word : (q : CpuData) (o : Option Task) (next : Act) → IsCpu q → task_of q ≡ o → next_at q o ≡ Some next → (n : WordName) × IsOn q.geometry next n
+next_at_word q None next is under_way e = absurd cc
+next_at_word q (Some (task.Look pa space)) next is under_way e =
+    act_word q.geometry q.number pa q.stage next is.geometry is.number (access_at q (task.Look pa space) is under_way) e
+next_at_word q (Some (task.Delegate pa source)) next is under_way e = absurd cc
+next_at_word q (Some (task.Undelegate pa source)) next is under_way e = absurd cc
+next_at_word q (Some task.Unknown) next is under_way e = absurd cc
+
+-- a next act is made on one of the shared words
+pub next_word : (q : CpuData) (next : Act) → IsCpu q → next_of q ≡ Some next → (n : WordName) × IsWordName q.geometry n × (place_in next ≡ place_of q.geometry n)
+next_word q next is e = let on = next_at_word q (task_of q) next is refl e in (on.0, on.1.0, on.1.1)
+
+pub next_below : (q : CpuData) (next : Act) → IsCpu q → next_of q ≡ Some next → place_in next < word_count q.geometry
+next_below q next is e =
+    let on = next_at_word q (task_of q) next is refl e in subst (λ (n : ℕ). n < word_count q.geometry) (sym on.1.1) (place_below q.geometry on.0 on.1.0)
+
+next_at_writes : (q : CpuData) (o : Option Task) (next : Act) → next_at q o ≡ Some next → (next ≡ act.Load (place_in next)) ⊎ (place_in next ≡ place_of q.geometry (Duty q.number))
+next_at_writes q None next e = absurd cc
+next_at_writes q (Some (task.Look pa space)) next e = act_writes q.geometry q.number pa q.stage next e
+next_at_writes q (Some (task.Delegate pa source)) next e = absurd cc
+next_at_writes q (Some (task.Undelegate pa source)) next e = absurd cc
+next_at_writes q (Some task.Unknown) next e = absurd cc
+
+-- and is a load or on the own duty word
+pub next_writes : (q : CpuData) (next : Act) → IsCpu q → next_of q ≡ Some next → (next ≡ act.Load (place_in next)) ⊎ (place_in next ≡ place_of q.geometry (Duty q.number))
+next_writes q next is e = next_at_writes q (task_of q) next e

@@ -1,0 +1,4 @@
+pub mod CpuLemmas
+pub mod ScriptLemmas
+pub mod FollowLemmas
+pub mod EntryLemmas

@@ -1,0 +1,5 @@
+use Rattle.processor.proofs.CpuLemmas.{took_is_cpu, took_keeps, next_word, next_below, next_writes}
+use Rattle.processor.proofs.law.processors_keep_to_their_words.Goals as goal
+
+pub returns : goal.returns
+returns c = record { kept = took_is_cpu; same = took_keeps; named = next_word; below = next_below; writes = next_writes }

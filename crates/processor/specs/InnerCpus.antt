@@ -1,0 +1,129 @@
+-- A processor as plain data, its next act, and the processor after an act.
+use Rattle.std.specs.Prelude.{◌≡◌, ℕ, ◌+◌, ◌≤◌, ◌<◌, Bool, not, List, [], ◌∷◌, ◌++◌, length, drop, slice_get, Option, Some, None, IsTrue, is_some}
+use Rattle.std.specs.List.{All}
+use Rattle.std.specs.Option.{option_map}
+use Rattle.gpt_descriptors.specs.Entries.{l1_entry}
+use Rattle.gpt_descriptors.specs.Places.{GeometryData, IsGeometry, block_gpi_of}
+use Rattle.shared_words.specs.declared.act.Act.{Act}
+use Rattle.history.specs.declared.call.Task.{Task}
+use Rattle.history.specs.declared.call.Task.TheVariants as task
+use Rattle.history.specs.declared.call.Answer.{Answer}
+use Rattle.processor.specs.InnerProgress.{Stage}
+use Rattle.processor.specs.InnerProgress as stage
+use Rattle.processor.specs.Accesses.{IsAccess, block_answer}
+use Rattle.processor.specs.InnerProgress.{act_at, after_at, answer_at}
+
+pub record CpuData : Type 0 where
+  pub geometry : GeometryData
+  pub number : ℕ
+  pub tasks : List Task
+  pub answers : List Answer
+  pub stage : Stage
+
+-- ---- tasks
+
+-- the task under way, the first one without an answer
+abbrev pub task_of : CpuData → Option Task
+task_of q = slice_get q.tasks (length q.answers)
+
+-- the answer of an access that has no acts, since its L0 entry is a block
+abbrev pub idle_answer : GeometryData → Task → Option Answer
+idle_answer g (task.Look pa space) = option_map (block_answer space) (block_gpi_of g pa)
+idle_answer g t = None
+
+-- an answer, where there is one, and those after it
+abbrev pub answered_first : Option Answer → List Answer → List Answer
+answered_first None answers = []
+answered_first (Some a) answers = a ∷ answers
+
+-- the answers of the accesses without acts that a list begins with
+abbrev pub idle_answers : GeometryData → List Task → List Answer
+idle_answers g [] = []
+idle_answers g (t ∷ tasks) = answered_first (idle_answer g t) (idle_answers g tasks)
+
+-- processor p before its first act
+abbrev pub fresh : GeometryData → ℕ → List Task → CpuData
+fresh g p tasks = record {
+  geometry = g;
+  number = p;
+  tasks = tasks;
+  answers = idle_answers g tasks;
+  stage = stage.Starting;
+}
+
+-- ---- acts
+
+-- each access is answered
+abbrev pub has_ended : CpuData → Bool
+has_ended q = not (is_some (task_of q))
+
+-- the next act at a task
+abbrev pub next_at : CpuData → Option Task → Option Act
+next_at q (Some (task.Look pa space)) = act_at q.geometry q.number pa q.stage
+next_at q t = None
+
+-- the next act of a processor
+abbrev pub next_of : CpuData → Option Act
+next_of q = next_at q (task_of q)
+
+-- ---- steps
+
+-- the access under way is answered, and with it those after it that have no acts
+abbrev pub after_answer : CpuData → Answer → CpuData
+after_answer q answer = record {
+  geometry = q.geometry;
+  number = q.number;
+  tasks = q.tasks;
+  answers =
+      (q.answers ++ answer ∷ []) ++ idle_answers q.geometry (drop (length q.answers + 1) q.tasks);
+  stage = stage.Starting;
+}
+
+-- the access under way goes on
+abbrev pub goes_to : CpuData → Stage → CpuData
+goes_to q s = record {
+  geometry = q.geometry;
+  number = q.number;
+  tasks = q.tasks;
+  answers = q.answers;
+  stage = s;
+}
+
+-- the processor after an act that ends its access with this answer, or after which it goes on so
+abbrev pub ends_or_goes : CpuData → Option Answer → Stage → CpuData
+ends_or_goes q (Some answer) s = after_answer q answer
+ends_or_goes q None s = goes_to q s
+
+abbrev pub took_at : CpuData → Option Task → ℕ → CpuData
+took_at q (Some (task.Look pa space)) old =
+    ends_or_goes q (answer_at space q.stage) (after_at q.geometry pa q.stage old)
+took_at q t old = q
+
+-- the processor after an act that answered this word
+abbrev pub took_of : CpuData → ℕ → CpuData
+took_of q old = took_at q (task_of q) old
+
+-- ---- which processors there are
+
+-- a word that is loaded as an L1 word is a descriptor
+abbrev pub IsReadable : Stage → ℕ → Type 0
+IsReadable (stage.Walking k) old = IsTrue (is_some (l1_entry old))
+IsReadable s old = Unit {0}
+
+-- the task under way has acts
+abbrev pub HasActs : GeometryData → Option Task → Type 0
+HasActs g None = Unit {0}
+HasActs g (Some t) = idle_answer g t ≡ None
+
+-- a processor without an access left is where it began
+abbrev pub IsAt : Option Task → Stage → Type 0
+IsAt None s = s ≡ stage.Starting
+IsAt (Some t) s = Unit {0}
+
+pub record IsCpu (q : CpuData) : Type 0 where
+  pub geometry : IsGeometry q.geometry
+  pub number : q.number < q.geometry.cpus
+  pub accesses : All (IsAccess q.geometry) q.tasks
+  pub answered : length q.answers ≤ length q.tasks
+  pub acts : HasActs q.geometry (task_of q)
+  pub stage : IsAt (task_of q) q.stage

@@ -1,0 +1,65 @@
+ghost use Rattle.std.specs.Prelude.{◌≡◌, ◌⊎◌, ◌≤◌, ◌<◌, ℕ, List, [], ◌∷◌, ◌++◌, Some, true, length};
+ghost use Rattle.shared_words.specs.declared.act.Act.{Act};
+ghost use Rattle.shared_words.specs.Acts.{place_in};
+ghost use Rattle.history.specs.declared.call.Task.{Task};
+ghost use Rattle.history.specs.declared.call.Answer.{Answer};
+ghost use Rattle.history.specs.Events.{CallEvent};
+ghost use Rattle.gpt_descriptors.specs.Places.{GeometryData, WordName, IsWordName, Duty, place_of, word_count};
+ghost use Rattle.processor.specs.Script.{IsCall, IsUnderWay, Follows};
+ghost use Rattle.processor.specs.InnerCpus.{CpuData, IsCpu, IsReadable, fresh, task_of, has_ended, next_of, took_of};
+ghost use Rattle.processor.specs.InnerEntries.{made_at, own_entries};
+ghost use Rattle.processor.specs.InnerScript.{HasWalked};
+
+/// The law of the script: processor `p` that is caller `c` follows its script from its beginning,
+/// and each next act takes it one event further, with the entries that the script says. Where it
+/// has no next act, each access is answered.
+pub fn processors_follow_their_script()
+    ensures start { (g : GeometryData) (p : ℕ) (tasks : List Task) (c : ℕ)
+        → HasWalked c (fresh g p tasks) [] }
+    ensures step { (c : ℕ) (q : CpuData) (events : List CallEvent) (next : Act) (old : ℕ)
+        → IsCpu q → HasWalked c q events → IsReadable q.stage old → next_of q ≡ Some next
+        → HasWalked c (took_of q old) (events ++ record {
+          act = next;
+          old = old;
+          made = made_at q.geometry c (length q.answers) q.stage (task_of q) old;
+        } ∷ []) }
+    ensures follows { (c : ℕ) (q : CpuData) (events : List CallEvent)
+        → IsCpu q → HasWalked c q events
+        → Follows q.geometry q.number c q.tasks q.answers events }
+    ensures ended { (q : CpuData) → IsCpu q → has_ended q ≡ true
+        → length q.answers ≡ length q.tasks }
+{}
+
+/// The entries of a processor that is caller `c`: none at its beginning, and with each next act
+/// those that the act makes are added. Those of its answered accesses are the ones of its answers.
+pub fn processors_make_their_entries()
+    ensures start { (g : GeometryData) (p : ℕ) (tasks : List Task) (c : ℕ)
+        → own_entries c (fresh g p tasks) ≡ [] }
+    ensures step { (c : ℕ) (q : CpuData) (next : Act) (old : ℕ) → next_of q ≡ Some next
+        → own_entries c (took_of q old) ≡ own_entries c q
+        ++ made_at q.geometry c (length q.answers) q.stage (task_of q) old }
+{}
+
+/// An access makes at most seven acts, and less than seven before it is answered.
+pub fn accesses_make_seven_acts()
+    ensures answered { (g : GeometryData) (p c n : ℕ) (t : Task) (given : Answer)
+        (events : List CallEvent) → IsCall g p c n t given events → length events ≤ 7 }
+    ensures under_way { (g : GeometryData) (p c n : ℕ) (t : Task) (events : List CallEvent)
+        → IsUnderWay g p c n t events → length events < 7 }
+{}
+
+/// What is known of a processor by how it was made alone, whatever its acts are answered: an act
+/// keeps its geometry, its number and its tasks; its next act is made on one of the shared words,
+/// and is a load or on its own duty word.
+pub fn processors_keep_to_their_words()
+    ensures kept { (q : CpuData) (old : ℕ) → IsCpu q → IsCpu (took_of q old) }
+    ensures same { (q : CpuData) (old : ℕ) → ((took_of q old).geometry ≡ q.geometry)
+        × ((took_of q old).number ≡ q.number) × ((took_of q old).tasks ≡ q.tasks) }
+    ensures named { (q : CpuData) (next : Act) → IsCpu q → next_of q ≡ Some next
+        → (n : WordName) × IsWordName q.geometry n × (place_in next ≡ place_of q.geometry n) }
+    ensures below { (q : CpuData) (next : Act) → IsCpu q → next_of q ≡ Some next
+        → place_in next < word_count q.geometry }
+    ensures writes { (q : CpuData) (next : Act) → IsCpu q → next_of q ≡ Some next
+        → (next ≡ Act.Load (place_in next))
+        ⊎ (place_in next ≡ place_of q.geometry (Duty q.number)) }
+{}
