@@ -3,7 +3,7 @@
 # of many agents that wait, of agents that make whole transitions, with few regions and calls and with
 # many, and of an agent that splits and merges 512 MB.
 #
-#     bench/turns.sh PROGRAM [RUNS]
+#     [YARDSTICK=FILE.c] bench/turns.sh PROGRAM [RUNS]
 #
 # Each time is that of the fastest of RUNS runs (5 if left out), less that of the same scenario with a
 # schedule of one turn, which is read and built alike. The scenarios that a table compares run by turns.
@@ -11,6 +11,10 @@
 # A turn's time should be the same whatever the number of agents, of regions and of calls. Each line with
 # the word `ratio` says how many times as long a turn takes with many; where one is above 1.3, the status
 # is 1. The last of these take a few milliseconds: run this where nothing else runs.
+#
+# YARDSTICK names a C program that measures raw work on this machine: its line `store`, nanoseconds for one
+# store of splitting and merging 512 MB, is printed below those of the program. Of a pair in one turn line all
+# acts are counted, most of which are stores; where one costs more than twice as much, the status is 1.
 #
 # One `round` line gives the agent that holds the lock as many turns as each that waits, and a holder
 # releases its lock within 13 turns. So it is the last one, and the line is one round: all others wait until
@@ -28,6 +32,7 @@ readonly pair_acts=$((delegate_acts + undelegate_acts))
 # At `max 512` a pair splits its block in 8,192 stores, and merges it in 62 loads and as many stores.
 readonly split_acts=$((pair_acts + 8192 + 62 + 8192))
 readonly most_ratio=1.3
+readonly most_store_ratio=2
 readonly gigabyte=$((1 << 30))
 failed=0
 
@@ -199,13 +204,24 @@ readonly split_pairs=$((most_turns / split_acts))
 readonly all_split=$((split_pairs * split_acts))
 max=512 pair_agents 1 "$split_pairs" 0x0 | scenario line "turn 0 $all_split"
 max=512 pair_agents 1 "$split_pairs" 0x0 | scenario rounds "round 64 $((all_split / 64 + 1))"
-times=$(least line=0 line.one=6 rounds=0 rounds.one=6)
-read -r line line_one rounds rounds_one <<<"$times"
+max=512 pair_agents 1 "$split_pairs" 0x0 | scenario single "round 1 $all_split"
+times=$(least line=0 line.one=6 rounds=0 rounds.one=6 single=0 single.one=6)
+read -r line line_one rounds rounds_one single single_one <<<"$times"
 
 echo
 heading 'splitting and merging of 512 MB; with printing' acts 'time ms' 'ns/act'
-row "$split_pairs pairs in one turn line" "$all_split" $((line - line_one))
+row "$split_pairs pairs in one turn line, by runs" "$all_split" $((line - line_one))
 row "$split_pairs pairs in rounds of 64 turns" "$all_split" $((rounds - rounds_one))
+row "$split_pairs pairs in rounds of 1 turn" "$all_split" $((single - single_one))
+if [ -n "${YARDSTICK:-}" ]; then
+    cc -O2 -o "$folder/yardstick" "$YARDSTICK"
+    "$folder/yardstick" | awk -v time=$((line - line_one)) -v acts="$all_split" -v most="$most_store_ratio" '$1 == "store" {
+        printf "%-50s %30.2f\n", "yardstick: one store", $2
+        ratio = time * 1e3 / acts / $2
+        printf "an act of one turn line to that store: ratio %.2f of at most %s\n", ratio, most
+        if (ratio > most) exit 1
+    }' || failed=1
+fi
 
 # ---- one acts and the rest wait
 

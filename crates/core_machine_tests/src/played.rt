@@ -173,7 +173,7 @@ fn played_between(alloc: Global, lines: &str) -> Result<Outcome, Fail> {
 /// Turns in the middle of a splitting, at its end, in the tests of merging, in the middle of
 /// merging, at its end, and beyond it.
 const TURNS: [u64; 10] = [
-    6, 4101, 4136, 8196, 8197, 8240, 8279, 12_000, 16_470, 16_500,
+    20, 4101, 4136, 8196, 8197, 8240, 8279, 12_000, 16_470, 16_500,
 ];
 
 #[test]
@@ -181,7 +181,7 @@ fn turns_of_one_line_leave_what_single_turns_leave(rt: HostRuntime) -> Result<()
     for turns in TURNS {
         let line = format!(in rt.alloc(); "turn 0 {turns}\n")?;
         let single = format!(in rt.alloc(); "round 1 {turns}\n")?;
-        let short = format!(in rt.alloc(); "round 7 {}\nturn 0 {}\n", turns / 7, turns % 7)?;
+        let short = format!(in rt.alloc(); "round 13 {}\nturn 0 {}\n", turns / 13, turns % 13)?;
         let wanted = played_between(rt.alloc(), single.as_str())?;
         for lines in [line.as_str(), short.as_str()] {
             let found = played_between(rt.alloc(), lines)?;
