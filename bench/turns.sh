@@ -3,7 +3,7 @@
 # of many agents that wait, of agents that make whole transitions, with few regions and calls and with
 # many, and of an agent that splits and merges 512 MB.
 #
-#     [YARDSTICK=FILE.c] bench/turns.sh PROGRAM [RUNS]
+#     [YARDSTICK=FILE.c] [TURNS=TURNS_PROGRAM] bench/turns.sh PROGRAM [RUNS]
 #
 # Each time is that of the fastest of RUNS runs (5 if left out), less that of the same scenario with a
 # schedule of one turn, which is read and built alike. The scenarios that a table compares run by turns.
@@ -12,7 +12,12 @@
 # the word `ratio` says how many times as long a turn takes with many; where one is above 1.3, the status
 # is 1. The last of these take a few milliseconds: run this where nothing else runs.
 #
-# YARDSTICK names a C program that measures raw work on this machine: its line `store`, nanoseconds for one
+# TURNS names the program of crates/turns_bench, which plays a scenario as PROGRAM does and prints no report: the
+# acts of whole transitions are timed by it too, without the texts of their answers.
+#
+# YARDSTICK names a C program that measures raw work on this machine: its line `act`, nanoseconds for one act of whole
+# transitions, is printed below those of TURNS; where one costs more than 2.5 times as much, the status is 1. Its line
+# `store`, nanoseconds for one
 # store of splitting and merging 512 MB, is printed below those of the program. Of a pair in one turn line all
 # acts are counted, most of which are stores; where one costs more than twice as much, the status is 1.
 #
@@ -33,6 +38,7 @@ readonly pair_acts=$((delegate_acts + undelegate_acts))
 readonly split_acts=$((pair_acts + 8192 + 62 + 8192))
 readonly most_ratio=1.3
 readonly most_store_ratio=2
+readonly most_act_ratio=2.5
 readonly gigabyte=$((1 << 30))
 failed=0
 
@@ -85,6 +91,11 @@ scenario() {
 # The least processor time of each of the scenarios $1, .., which run by turns, in microseconds. A name
 # is followed by the status that its run is to end with, as in NAME=6.
 least() {
+    least_by "$program" "$@"
+}
+
+# The same of the program $1, for the scenarios after it.
+least_by() {
     python3 -c '
 import os, sys
 program, runs, folder = sys.argv[1], int(sys.argv[2]), sys.argv[3]
@@ -102,7 +113,7 @@ for _ in range(runs):
             sys.exit(f"{name}: status {os.WEXITSTATUS(status)}, and not {wanted}")
         kept.append(used.ru_utime + used.ru_stime)
 print(*(round(min(kept) * 1e6) for kept in times))
-' "$program" "$runs" "$folder" "$@"
+' "$1" "$runs" "$folder" "${@:2}"
 }
 
 heading() {
@@ -176,6 +187,35 @@ row '  less as many lines "inval"' "$shared_acts" $((shared - shared_refused))
 row 'for comparison: a turn that waits, as above' "$alone" $((again - again_one))
 compare 'an act of 32 agents to one of 1 agent' "$((shared - shared_refused))" "$shared_acts" "$((one - one_refused))" "$one_acts"
 
+# The C program that the yardstick is, built once.
+if [ -n "${YARDSTICK:-}" ]; then
+    cc -O2 -o "$folder/yardstick" "$YARDSTICK"
+fi
+
+# Holds nanoseconds for an act against the yardstick's line $1: what it is, microseconds, acts, the most.
+hold() {
+    "$folder/yardstick" | awk -v line="$1" -v what="$2" -v time="$3" -v acts="$4" -v most="$5" '$1 == line {
+        printf "%-50s %30.2f\n", "yardstick: " line, $2
+        ratio = time * 1e3 / acts / $2
+        printf "%s to it: ratio %.2f of at most %s\n", what, ratio, most
+        if (ratio > most) exit 1
+    }' || failed=1
+}
+
+if [ -n "${TURNS:-}" ]; then
+    times=$(least_by "$TURNS" one=0 one.one=0 shared=0 shared.one=0)
+    read -r one one_one shared shared_one <<<"$times"
+    echo
+    heading 'whole transitions, each turn an act; no report' acts 'time ms' 'ns/act'
+    row "1 agent, $one_pairs pairs" "$one_acts" $((one - one_one))
+    row "32 agents, $shared_pairs pairs each" "$shared_acts" $((shared - shared_one))
+    compare 'an act of 32 agents to one of 1 agent' "$((shared - shared_one))" "$shared_acts" "$((one - one_one))" "$one_acts"
+    if [ -n "${YARDSTICK:-}" ]; then
+        hold act 'an act of 1 agent' $((one - one_one)) "$one_acts" "$most_act_ratio"
+        hold act 'an act of 32 agents' $((shared - shared_one)) "$shared_acts" "$most_act_ratio"
+    fi
+fi
+
 # ---- few and many regions and calls
 
 # One agent at the last granule of the last region, where a pair has 54 bytes and a region at most 45, with as
@@ -214,13 +254,7 @@ row "$split_pairs pairs in one turn line, by runs" "$all_split" $((line - line_o
 row "$split_pairs pairs in rounds of 64 turns" "$all_split" $((rounds - rounds_one))
 row "$split_pairs pairs in rounds of 1 turn" "$all_split" $((single - single_one))
 if [ -n "${YARDSTICK:-}" ]; then
-    cc -O2 -o "$folder/yardstick" "$YARDSTICK"
-    "$folder/yardstick" | awk -v time=$((line - line_one)) -v acts="$all_split" -v most="$most_store_ratio" '$1 == "store" {
-        printf "%-50s %30.2f\n", "yardstick: one store", $2
-        ratio = time * 1e3 / acts / $2
-        printf "an act of one turn line to that store: ratio %.2f of at most %s\n", ratio, most
-        if (ratio > most) exit 1
-    }' || failed=1
+    hold store 'an act of one turn line' $((line - line_one)) "$all_split" "$most_store_ratio"
 fi
 
 # ---- one acts and the rest wait
