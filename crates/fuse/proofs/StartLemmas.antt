@@ -1,5 +1,5 @@
 -- Merging that has no acts.
-use Rattle.std.proofs.Common.{◌≡◌, ℕ, true, false, Option, Some, None, refl, inl, inr}
+use Rattle.std.proofs.Common.{◌≡◌, ℕ, false, Option, Some, None, refl, inl, inr}
 use Rattle.std.specs.Prelude.{◌&&◌, is_some}
 use Rattle.std.proofs.lemmas.Bool.{cases_Bool}
 use Rattle.gpi_values.specs.declared.gpi.Gpi.{Gpi}
@@ -8,7 +8,6 @@ use Rattle.gpt_descriptors.specs.declared.size.MaxBlock.{MaxBlock}
 use Rattle.gpt_descriptors.specs.Sizes.{is_permitted}
 use Rattle.gpt_descriptors.specs.Fields.{equal_gpi}
 use Rattle.gpt_descriptors.specs.Places.{GeometryData}
-use Rattle.shared_words.specs.declared.act.Act.{Act}
 use Rattle.table_meaning.specs.Fusing.{begun}
 use Rattle.fuse.specs.Merging.{act_at, next_of, fuse_of, gpi_or_none, has_acts}
 
