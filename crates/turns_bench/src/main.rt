@@ -20,9 +20,15 @@ use table_build::build;
 
 /// What the run of a scenario leaves, or `None` where the input is refused or memory is wanting.
 fn played(alloc: Global, bytes: &[u8]) -> Option<Outcome> {
-    let scenario = parse(alloc, bytes).ok()?;
-    let plan = Plan::plan(alloc, scenario.regions.as_slice(), &scenario.setup).ok()?;
-    let tables = build(alloc, &plan, scenario.setup.base()).ok()?;
+    let Ok(scenario) = parse(alloc, bytes) else {
+        return None;
+    };
+    let Ok(plan) = Plan::plan(alloc, scenario.regions.as_slice(), &scenario.setup) else {
+        return None;
+    };
+    let Ok(tables) = build(alloc, &plan, scenario.setup.base()) else {
+        return None;
+    };
     play(alloc, &scenario, tables).ok()
 }
 
