@@ -1,6 +1,7 @@
 -- Processors after an act are processors, one with an access left has a next act, and acts keep to the words of the geometry.
 use Rattle.std.proofs.Common.{◌≡◌, ℕ, zero, suc, ◌+◌, ◌/◌, ◌≤◌, ◌<◌, ◌⊎◌, ◌++◌, ◌∷◌, [], List, true, not, Some, None, Option, length, drop, refl, sym, ap, ◌∙◌, subst, arith, inl, inr, length-append, length-drop}
 use Rattle.std.specs.Prelude.{slice_get, is_some}
+use Rattle.std.specs.List.{All}
 use Rattle.std.specs.Option.{option_map}
 use Rattle.std.proofs.lemmas.Option.{slice_get_within, get_or_from_slice_get}
 use Rattle.gpi_values.specs.declared.gpi.Space.{Space}
@@ -17,7 +18,7 @@ use Rattle.processor.specs.InnerProgress.{Stage}
 use Rattle.processor.specs.InnerProgress as stage
 use Rattle.processor.specs.Accesses.{IsAccess, block_answer}
 use Rattle.processor.specs.InnerProgress.{act_at, after_at, answer_at}
-use Rattle.processor.specs.InnerCpus.{CpuData, IsCpu, IsAt, HasActs, task_of, idle_answer, answered_first, idle_answers, has_ended, next_at, next_of, after_answer, ends_or_goes, took_at, took_of}
+use Rattle.processor.specs.InnerCpus.{CpuData, IsCpu, IsAt, HasActs, fresh, task_of, idle_answer, answered_first, idle_answers, has_ended, next_at, next_of, after_answer, ends_or_goes, took_at, took_of}
 
 -- ---- the answers of accesses without acts
 
@@ -64,6 +65,17 @@ answer_is_cpu q t answer is under_way =
       acts = subst (HasActs q.geometry) (get_drop q.tasks (length q.answers + 1) (length (idle_answers q.geometry rest)) ∙ ap (slice_get q.tasks) (sym count)) (idle_then_acts q.geometry rest);
       stage = starts_at (task_of (after_answer q answer));
     }
+
+-- a processor before its first act is one
+pub fresh_is_cpu : (g : GeometryData) (p : ℕ) (tasks : List Task) → IsGeometry g → p < g.cpus → All (IsAccess g) tasks → IsCpu (fresh g p tasks)
+fresh_is_cpu g p tasks geometry number accesses = record {
+  geometry = geometry;
+  number = number;
+  accesses = accesses;
+  answered = idle_few g tasks;
+  acts = idle_then_acts g tasks;
+  stage = starts_at (task_of (fresh g p tasks));
+}
 
 ends_is_cpu : (q : CpuData) (t : Task) (o : Option Answer) (s : Stage) → IsCpu q → task_of q ≡ Some t → IsCpu (ends_or_goes q o s)
 ends_is_cpu q t (Some answer) s is under_way = answer_is_cpu q t answer is under_way
