@@ -26,7 +26,7 @@ use Rattle.core_machine.proofs.AddressLemmas.{granule_within, index_at, lock_of,
 use Rattle.core_machine.proofs.ListLemmas.{one, get_append, get_front, get_last}
 use Rattle.core_machine.proofs.CallerLemmas.{Owner, agent_has, due_alone, holder_there, others_closed, others_whole}
 use Rattle.core_machine.proofs.OpenedLemmas.{closed_here}
-use Rattle.core_machine.proofs.StepLemmas.{list_of, added_to, map_next, map_elsewhere, opened_with, IsEntryOf, step_keeps, counted_grown}
+use Rattle.core_machine.proofs.StepLemmas.{list_of, added_to, map_next, map_elsewhere, opened_with, IsEntryOf, no_duty, step_keeps, counted_grown}
 use Rattle.core_machine.proofs.WordLemmas.{Writes, IsApart, is_generation, is_idle, is_level1, is_lock, generations_left, locks_left, plain_apart, words_left, writes_none}
 
 -- ---- the caller that acts
@@ -65,6 +65,12 @@ pub canonical_gives : (s : SetupData) (m : ℕ → Gpi) (apart : Option ℕ) (gr
 canonical_gives s m apart granule word is =
     let whole : 16 * (granule / 16) + granule % 16 ≡ granule = omega arith in
     ap (λ (w : ℕ). word_gpi w (granule % 16)) is ∙ canonical_meaning s m apart (granule / 16) (granule % 16) (omega arith) ∙ ap (λ (n : ℕ). Some (m n)) whole
+
+-- the map has each granule of the space
+pub map_gives : (g : GeometryData) (s : Scene) (pa : ℕ) → HoldsIn g s → pa < space_bytes g.setup → slice_get (state_in s).map (pa / granule_bytes g.setup) ≡ Some (map_in s (pa / granule_bytes g.setup))
+map_gives g s pa stands inside =
+    slice_get-get_or (state_in s).map (pa / granule_bytes g.setup) gpi.Any
+    (subst (λ (n : ℕ). pa / granule_bytes g.setup < n) (sym (state_length (start s.first) s.history ∙ stands.shape.granules)) (granule_within g.setup pa inside))
 
 module _ {s : Scene} {c : ℕ} {a : AgentData} {t : Task} {st : Stage} (acting : Acting s c a t st) where
   pub inside_of : address_of t < space_bytes a.geometry.setup
@@ -157,9 +163,7 @@ module _ {s : Scene} {c : ℕ} {a : AgentData} {t : Task} {st : Stage} (acting :
 
   -- the map has its granule
   pub map_has : slice_get (state_in s).map (granule_of_task a.geometry t) ≡ Some (map_in s (granule_of_task a.geometry t))
-  map_has =
-      slice_get-get_or (state_in s).map (granule_of_task a.geometry t) gpi.Any
-      (subst (λ (n : ℕ). granule_of_task a.geometry t < n) (sym (state_length (start s.first) s.history ∙ acting.stands.shape.granules)) (granule_within a.geometry.setup (address_of t) inside_of))
+  map_has = map_gives a.geometry s (address_of t) acting.stands inside_of
 
 -- ---- an act between its lock and its unlock
 
@@ -258,7 +262,7 @@ goes_keeps {s = s} {c = c} {a = a} {t = t} {st = st} acting next n after o goes 
       made = goes.made;
       writes = goes.writes;
       apart = λ m free. goes.block m (λ same. absurd (let both : true ≡ false = sym (owner_of acting goes.inside).has ∙ ap (λ (k : ℕ). holds k me) same ∙ free in cc));
-      idle = goes.idle;
+      duty = no_duty refl refl goes.idle;
       entry = entry;
       tables = record { level1 = goes.words; blocks = blocks_next acting o goes.entry };
       opened = rw acting.under_way goes.opened;

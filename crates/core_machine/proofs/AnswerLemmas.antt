@@ -3,7 +3,7 @@ use Rattle.std.proofs.Common.{◌≡◌, ℕ, zero, suc, ◌+◌, ◌<◌, ◌�
 use Rattle.std.specs.Prelude.{slice_get, MatchOption}
 use Rattle.std.specs.List.{All, list_any}
 use Rattle.std.specs.Option.{option_map}
-use Rattle.std.proofs.lemmas.Bool.{cases_Bool, eqb-true, eq-eqb, and_parts, or_cases, or_parts}
+use Rattle.std.proofs.lemmas.Bool.{cases_Bool, eqb-true, eq-eqb, and_parts, and_right, or_cases, or_parts}
 use Rattle.std.proofs.lemmas.List.Elements.{All-head, All-tail}
 use Rattle.std.proofs.lemmas.List.Folds.{list_any-append}
 use Rattle.std.proofs.lemmas.Option.{slice_get-map}
@@ -14,6 +14,7 @@ use Rattle.core_machine.proofs.Names.task
 use Rattle.core_machine.proofs.Names.entry
 use Rattle.core_machine.proofs.Names.stage
 use Rattle.core_machine.proofs.Names.caller
+use Rattle.core_machine.proofs.AccessLemmas.{FailsLooks, own_fail}
 use Rattle.core_machine.proofs.LegalLemmas.{HaveTasks, AreMade}
 use Rattle.core_machine.proofs.EntryLemmas.{refused_is, IsOwnEntry, prefix_fits, prefix_allowed}
 use Rattle.core_machine.proofs.AloneLemmas.{all_middle, any_weaker, later_number}
@@ -152,25 +153,26 @@ answers_none callers c k x at none =
     past_end (caller_answers x) k (rw there at none)
 
 unanswered_of : (g : GeometryData) (callers : List Caller) (h : List Entry) (c k : ℕ) (p : Entry → Bool) (x : Caller) → slice_get callers c ≡ Some x → AreMade g callers → entries_by c h ≡ own_of c x
-    → answer_at (map caller_answers callers) c k ≡ None → ((e : Entry) → p e ≡ true → is_by c k e ≡ true) → list_any p h ≡ true → Unanswered g callers c k p
-unanswered_of g callers h c k p (caller.Cpu looks) at made own none by some =
+    → answer_at (map caller_answers callers) c k ≡ None → ((e : Entry) → p e ≡ true → is_by c k e ≡ true) → FailsLooks p → list_any p h ≡ true → Unanswered g callers c k p
+unanswered_of g callers h c k p (caller.Cpu q) at made own none by fails some =
     absurd
     (let kept = any_kept c p h (λ e passes. eqb-true (caller_in e) c (and_parts (eqb (caller_in e) c) (eqb (call_in e) k) (by e passes)).0) some in
-    let both : list_any p [] ≡ true = subst (λ (es : List Entry). list_any p es ≡ true) own kept in cc)
-unanswered_of g callers h c k p (caller.Agent a) at made own none by some =
-    let is = made c a at in
+    let is = made c (caller.Cpu q) at in
+    let both : false ≡ true = sym (own_fail p c q is.2 fails is.3) ∙ ap (list_any p) (sym own) ∙ kept in cc)
+unanswered_of g callers h c k p (caller.Agent a) at made own none by fails some =
+    let is = made c (caller.Agent a) at in
     let kept = any_kept c p h (λ e passes. eqb-true (caller_in e) c (and_parts (eqb (caller_in e) c) (eqb (call_in e) k) (by e passes)).0) some in
     let there = number_of (granule_bytes a.geometry.setup) c k a.tasks a.answers (entries_at a.geometry c (length a.answers) a.stage (task_of a)) p (answers_none callers c k (caller.Agent a) at none) by
     (subst (λ (es : List Entry). list_any p es ≡ true) own kept) in
     record { agent = a; at = at; way = under_way_by a.geometry c k a p (task_of a) is.3.last refl is.1.acts is.1.stage is.3.under_way by there }
 
 pub unanswered : (g : GeometryData) (first : List Gpi) (callers : List Caller) (h before after : List Entry) (e : Entry) (c k : ℕ) (p : Entry → Bool) → IsHistoryOf first callers h → AreMade g callers
-    → answer_at (map caller_answers callers) c k ≡ None → ((x : Entry) → p x ≡ true → is_by c k x ≡ true) → h ≡ before ++ e ∷ after → p e ≡ true → Unanswered g callers c k p
-unanswered g first callers h before after e c k p tells made none by parts passes =
+    → answer_at (map caller_answers callers) c k ≡ None → ((x : Entry) → p x ≡ true → is_by c k x ≡ true) → FailsLooks p → h ≡ before ++ e ∷ after → p e ≡ true → Unanswered g callers c k p
+unanswered g first callers h before after e c k p tells made none by fails parts passes =
     let low : caller_in e < length callers = all_middle (λ (x : Entry). caller_in x < length callers) before after e (subst (All (λ (x : Entry). caller_in x < length callers)) parts tells.known) in
     let mine : caller_in e ≡ c = eqb-true (caller_in e) c (and_parts (eqb (caller_in e) c) (eqb (call_in e) k) (by e passes)).0 in
     elim (slice_get_cases callers c).1 [
-      | inl here ↦ unanswered_of g callers h c k p here.0 here.2 made (tells.own c here.0 here.2) none by (any_here p h before after e parts passes)
+      | inl here ↦ unanswered_of g callers h c k p here.0 here.2 made (tells.own c here.0 here.2) none by fails (any_here p h before after e parts passes)
       | inr past ↦ absurd (let beyond = past.0 in omega (arith, beyond, low, mine))
     ]
 
@@ -201,8 +203,8 @@ alone_of s before after e c k n a stands at way parts by =
 
 pub alone_told : (g : GeometryData) (s : Scene) → HoldsIn g s → AreMade g s.callers → AreAlone g.setup (map caller_answers s.callers) s.history
 alone_told g s stands made before after e c k n parts none by on =
-    let one = unanswered g s.first s.callers s.history before after e c k (on_block_of g.setup c k n) stands.history made none (λ x passes. (and_parts (is_by c k x) (is_on_block g.setup n x) passes).0) parts (rw by on) in
-    let is = made c one.agent one.at in
+    let one = unanswered g s.first s.callers s.history before after e c k (on_block_of g.setup c k n) stands.history made none (λ x passes. (and_parts (is_by c k x) (is_on_block g.setup n x) passes).0) (λ d j granule space gpi allowed. and_right (is_by c k (entry.Looked d j granule space gpi allowed)) false refl) parts (rw by on) in
+    let is = made c (caller.Agent one.agent) one.at in
     let way = one.way in
     subst (λ (v : GeometryData). All (λ (x : Entry). is_on_block v.setup n x ≡ true → is_by c k x ≡ true) after) is.0
     (alone_of s before after e c k n one.agent (subst (λ (v : GeometryData). HoldsIn v s) (sym is.0) stands) one.at
@@ -240,8 +242,8 @@ worn_of g s c k a t found stands at way same needs =
 pub worn_told : (g : GeometryData) (s : Scene) (tasks : List (List Task)) → HoldsIn g s → HaveTasks tasks s.callers → AreMade g s.callers → AreWorn g tasks (map caller_answers s.callers) s.history
 worn_told g s tasks stands have made before after c k granule found t parts asked none needs =
     let e = entry.Refused c k granule found in
-    let one = unanswered g s.first s.callers s.history before after e c k (refused_by c k found) stands.history made none (λ x passes. (and_parts (is_by c k x) (refuses found x) passes).0) parts
+    let one = unanswered g s.first s.callers s.history before after e c k (refused_by c k found) stands.history made none (λ x passes. (and_parts (is_by c k x) (refuses found x) passes).0) (λ d j granule space gpi allowed. and_right (is_by c k (entry.Looked d j granule space gpi allowed)) false refl) parts
     (rw (eq-eqb c c refl, eq-eqb k k refl) (eq-eqb (value_of found) (value_of found) refl)) in
-    let own : slice_get one.agent.tasks k ≡ Some t = rw (have c one.agent one.at) at asked in
+    let own : slice_get one.agent.tasks k ≡ Some t = rw (have c (caller.Agent one.agent) one.at) at asked in
     let same : one.way.task ≡ t = let both : Some one.way.task ≡ Some t = sym one.way.next ∙ ap (slice_get one.agent.tasks) (sym one.way.number) ∙ own in cc in
     worn_of g s c k one.agent t found stands one.at one.way same needs

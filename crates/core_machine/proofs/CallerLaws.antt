@@ -5,18 +5,19 @@ use Rattle.core_machine.proofs.Names.{GeometryData, lock_number, Task, address_o
 use Rattle.core_machine.proofs.Names.caller
 use Rattle.delegate_ops.proofs.AgentLemmas.{took_is_agent}
 use Rattle.delegate_ops.proofs.NextLemmas.{next_there}
+use Rattle.processor.proofs.CpuLemmas.{took_is_cpu, took_keeps}
 use Rattle.core_machine.specs.InnerCallerLaws.{ActsKeepTheirCaller, AgentsGoOn, WaitsHaveCauses}
 use Rattle.core_machine.proofs.AddressLemmas.{task_low}
 use Rattle.core_machine.proofs.CallerLemmas.{agent_inside, made_at_place}
 use Rattle.core_machine.proofs.LawLemmas.{took_leaves}
-use Rattle.core_machine.proofs.FitLemmas.{took_tasks}
+use Rattle.core_machine.proofs.NumberLemmas.{took_number, took_tasks}
 use Rattle.core_machine.proofs.ListLemmas.{some_or_none}
 
 -- ---- what an act keeps
 
 pub acts_keep : ActsKeepTheirCaller
-acts_keep g (caller.Agent a) old made = (((took_leaves a (task_of a) old).0 ∙ made.0, took_is_agent a old made.1), took_tasks (caller.Agent a) old)
-acts_keep g (caller.Cpu looks) old made = (tt, refl)
+acts_keep g (caller.Agent a) old made = (((took_leaves a (task_of a) old).0 ∙ made.0, took_is_agent a old made.1), took_tasks (caller.Agent a) old, refl)
+acts_keep g (caller.Cpu q) old made = (((took_keeps q old).0 ∙ made.0, took_is_cpu q old made.1), took_tasks (caller.Cpu q) old, took_number (caller.Cpu q) old)
 
 pub agents_go_on : AgentsGoOn
 agents_go_on a is left = rw (next_there a is, left) refl
@@ -25,7 +26,7 @@ agents_go_on a is left = rw (next_there a is, left) refl
 
 -- whoever holds a lock is an agent inside a task of that lock
 held_by : (n : ℕ) (y : Caller) → holds n y ≡ true → (b : AgentData) × (u : Task) × (y ≡ caller.Agent b) × (task_of b ≡ Some u) × (lock_number b.geometry.setup (address_of u) ≡ n) × (is_inside b.stage ≡ true)
-held_by n (caller.Cpu looks) has = absurd cc
+held_by n (caller.Cpu q) has = absurd cc
 held_by n (caller.Agent b) has = let inside = agent_inside b n has in (b, inside.0, refl, inside.1, inside.2, inside.3)
 
 pub waits_have_causes : WaitsHaveCauses

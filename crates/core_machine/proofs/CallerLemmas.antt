@@ -108,7 +108,7 @@ agent_placed a is = record {
 
 pub placed : (g : GeometryData) (x : Caller) → IsMade g x → IsPlaced g x
 placed g (caller.Agent a) made = subst (λ (k : GeometryData). IsPlaced k (caller.Agent a)) made.0 (agent_placed a made.1)
-placed g (caller.Cpu looks) made = record { low = λ n has. absurd cc; opened = λ granule. inl refl; due = λ y region. inl refl; holder = inl refl; sees = λ k l words after left sees. tt }
+placed g (caller.Cpu q) made = record { low = λ n has. absurd cc; opened = λ granule. inl refl; due = λ y region. inl refl; holder = inl refl; sees = λ k l words after left sees. tt }
 
 -- what holds of a caller of the list
 pub made_at_place : (g : GeometryData) (s : Scene) (d : ℕ) (y : Caller) → HoldsIn g s → slice_get s.callers d ≡ Some y → IsMade g y

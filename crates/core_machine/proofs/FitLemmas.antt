@@ -4,46 +4,39 @@ use Rattle.std.specs.Prelude.{Result, Ok, Err, IfOk}
 use Rattle.std.specs.List.{All}
 use Rattle.std.proofs.lemmas.List.{length-map}
 use Rattle.std.proofs.lemmas.List.Elements.{All-head, All-tail}
-use Rattle.core_machine.proofs.Names.{Gpi, GeometryData, Scenario, Script, Task, Entry, task_of, Caller, caller_took, caller_answers, IsMade, InvariantFor, caller_of, opening_of, played, geometry_of, task_of_ask, turns_in}
+use Rattle.core_machine.proofs.Names.{Gpi, GeometryData, Scenario, Script, Task, Entry, Caller, caller_took, caller_tasks, caller_answers, IsMade, InvariantFor, caller_of, callers_from, next_number, opening_of, played, geometry_of, task_of_ask, task_of_look, turns_in}
 use Rattle.core_machine.proofs.Names.script
 use Rattle.core_machine.proofs.Names.caller
 use Rattle.scenario_text.specs.Calls.{calls_of as calls_in, AreAnswersOf}
 use Rattle.history.specs.declared.outcome.Outcome.{Outcome}
-use Rattle.core_machine.specs.InnerCallers.{agent_tasks}
 use Rattle.core_machine.specs.InnerPlay.{outcome_of}
-use Rattle.core_machine.proofs.LawLemmas.{took_leaves}
+use Rattle.core_machine.proofs.NumberLemmas.{took_tasks}
 use Rattle.core_machine.proofs.MachineLemmas.{turns_leave}
 
 -- ---- the calls of a caller
 
 abbrev calls_of : Caller → ℕ
-calls_of (caller.Agent a) = length a.tasks
-calls_of (caller.Cpu looks) = looks
-
-pub took_tasks : (x : Caller) (old : ℕ) → agent_tasks (caller_took x old) ≡ agent_tasks x
-took_tasks (caller.Agent a) old = ap Some (took_leaves a (task_of a) old).1
-took_tasks (caller.Cpu looks) old = refl
+calls_of x = length (caller_tasks x)
 
 took_calls : (x : Caller) (old : ℕ) → calls_of (caller_took x old) ≡ calls_of x
-took_calls (caller.Agent a) old = ap (λ (tasks : List Task). length tasks) (took_leaves a (task_of a) old).1
-took_calls (caller.Cpu looks) old = refl
+took_calls x old = ap (λ (tasks : List Task). length tasks) (took_tasks x old)
 
 -- ---- the calls of a scenario
 
-script_calls_of : (g : GeometryData) (s : Script) → calls_of (caller_of g s) ≡ calls_in s
-script_calls_of g (script.Agent asks) = length-map asks task_of_ask
-script_calls_of g (script.Cpu looks) = refl
+script_calls_of : (g : GeometryData) (p : ℕ) (s : Script) → calls_of (caller_of g p s) ≡ calls_in s
+script_calls_of g p (script.Agent asks) = length-map asks task_of_ask
+script_calls_of g p (script.Cpu looks) = length-map looks task_of_look
 
-opening_calls : (g : GeometryData) (scripts : List Script) → map calls_of (map (caller_of g) scripts) ≡ map calls_in scripts
-opening_calls g [] = refl
-opening_calls g (s ∷ scripts) =
-    ap (λ (n : ℕ). n ∷ map calls_of (map (caller_of g) scripts)) (script_calls_of g s) ∙ ap (λ (ns : List ℕ). calls_in s ∷ ns) (opening_calls g scripts)
+opening_calls : (g : GeometryData) (p : ℕ) (scripts : List Script) → map calls_of (callers_from g p scripts) ≡ map calls_in scripts
+opening_calls g p [] = refl
+opening_calls g p (s ∷ scripts) =
+    ap (λ (n : ℕ). n ∷ map calls_of (callers_from g (next_number p s) scripts)) (script_calls_of g p s) ∙ ap (λ (ns : List ℕ). calls_in s ∷ ns) (opening_calls g (next_number p s) scripts)
 
 -- ---- answers
 
 few_answers : (g : GeometryData) (x : Caller) → IsMade g x → length (caller_answers x) ≤ calls_of x
 few_answers g (caller.Agent a) made = made.1.answered
-few_answers g (caller.Cpu looks) made = omega arith
+few_answers g (caller.Cpu q) made = made.1.answered
 
 answers_fit : (g : GeometryData) (scripts : List Script) (callers : List Caller) → All (IsMade g) callers → map calls_of callers ≡ map calls_in scripts → AreAnswersOf scripts (map caller_answers callers)
 answers_fit g [] [] made calls = tt
@@ -59,7 +52,7 @@ answers_fit g (s ∷ scripts) (x ∷ callers) made calls =
 pub played_answers : (s : Scenario) (first : List Gpi) (h : List Entry) → InvariantFor first (played s) h → AreAnswersOf s.scripts (map caller_answers (played s).callers)
 played_answers s first h stands =
     answers_fit (played s).geometry s.scripts (played s).callers stands.shape.made
-    (turns_leave calls_of (opening_of s) (turns_in s) took_calls ∙ opening_calls (geometry_of s) s.scripts)
+    (turns_leave calls_of (opening_of s) (turns_in s) took_calls ∙ opening_calls (geometry_of s) 0 s.scripts)
 
 -- what is left of what is played: answers of the scenario's calls
 pub answers_of : {E : Type 0} (s : Scenario) (first : List Gpi) (h : List Entry) (r : Result Outcome E) → InvariantFor first (played s) h → IfOk r (λ outcome. outcome ≡ outcome_of (played s))

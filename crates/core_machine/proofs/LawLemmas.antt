@@ -23,7 +23,9 @@ use Rattle.core_machine.proofs.LoadActs.{look_keeps, read_keeps}
 use Rattle.core_machine.proofs.ChangeActs.{change_keeps}
 use Rattle.core_machine.proofs.RaiseActs.{raise_keeps}
 use Rattle.core_machine.proofs.BlockActs.{split_place, split_keeps, merge_keeps}
-use Rattle.core_machine.proofs.WordLemmas.{is_lock}
+use Rattle.core_machine.proofs.CpuActs.{access_keeps, cpu_accessing}
+use Rattle.core_machine.proofs.WordLemmas.{is_idle, is_lock}
+use Rattle.processor.proofs.CpuLemmas.{next_below}
 use Rattle.gpt_descriptors.proofs.PlaceLemmas.{generation_named, index_within, place_below}
 use Rattle.delegate_ops.proofs.DecidingLemmas.{acts_inside}
 use Rattle.gpt_descriptors.specs.declared.size.MaxBlock.{MaxBlock}
@@ -63,6 +65,7 @@ pub record IsOn (g : GeometryData) (t : Task) (st : Stage) (next : Act) : Type 0
   pub name : WordName
   pub named : IsWordName g name
   pub place : place_in next ≡ place_of g name
+  pub idle : is_idle (Some name) ≡ false
   pub how : ((st ≡ stage.Locking) × (next ≡ take_act (lock_bit_of g t))) ⊎ (((given : Answer) × (st ≡ stage.Releasing given) × (next ≡ release_act (lock_bit_of g t))) ⊎ (is_lock (Some name) ≡ false))
 
 lock_row : (g : GeometryData) (t : Task) → IsGeometry g → idle_answer g t ≡ None → lock_number g.setup (address_of t) / 64 < 2
@@ -71,14 +74,14 @@ lock_row g t geometry acts = omega (arith, lock_low g.setup (address_of t) geome
 on_level1 : (g : GeometryData) (t : Task) (st : Stage) (place : ℕ) (next : Act) → IsGeometry g → l1_place_of g (address_of t) ≡ Some place → place_in next ≡ place → IsOn g t st next
 on_level1 g t st place next geometry there here =
     let at = index_at g (address_of t) place there in
-    record { name = Level1 at.0; named = index_within g (address_of t) at.0 geometry at.1; place = here ∙ at.2; how = inr (inr refl) }
+    record { name = Level1 at.0; named = index_within g (address_of t) at.0 geometry at.1; place = here ∙ at.2; idle = refl; how = inr (inr refl) }
 
 on_generation : (g : GeometryData) (t : Task) (st : Stage) (z : Size) (next : Act) → idle_answer g t ≡ None → place_in next ≡ gen_place_of g z (address_of t) → IsOn g t st next
 on_generation g t st z next acts here =
-    record { name = Generation z (address_of t / size_bytes z); named = generation_named g z (address_of t) (acts_inside g t acts); place = here; how = inr (inr refl) }
+    record { name = Generation z (address_of t / size_bytes z); named = generation_named g z (address_of t) (acts_inside g t acts); place = here; idle = refl; how = inr (inr refl) }
 
 on_index : (g : GeometryData) (t : Task) (st : Stage) (i : ℕ) (next : Act) → i < l1_words g → place_in next ≡ place_of g (Level1 i) → IsOn g t st next
-on_index g t st i next within here = record { name = Level1 i; named = within; place = here; how = inr (inr refl) }
+on_index g t st i next within here = record { name = Level1 i; named = within; place = here; idle = refl; how = inr (inr refl) }
 
 merging_word : (g : GeometryData) (t : Task) (first own two : ℕ) (max : MaxBlock) (v : Gpi) (step : Fusing) (k : Generations) (next : Act) → IsGeometry g → IsMergingOf g (address_of t) (record { first = first; own = own; two = two; max = max; gpi = v; step = step })
     → fuse.act_at first own two v step ≡ Some next → IsOn g t (stage.Merging (record { first = first; own = own; two = two; max = max; gpi = v; step = step }) k) next
@@ -101,10 +104,10 @@ merging_word g t first own two max v (Ended o) k next geometry is e = absurd cc
 pub act_word : (g : GeometryData) (t : Task) (st : Stage) (next : Act) → IsGeometry g → idle_answer g t ≡ None → IsStage g st (Some t) → act_at g st t ≡ Some next → IsOn g t st next
 act_word g t stage.Locking next geometry acts fits e =
     let same : next ≡ take_act (lock_bit_of g t) = cc in
-    record { name = Lock (lock_number g.setup (address_of t) / 64); named = lock_row g t geometry acts; place = ap place_in same; how = inl (refl, same) }
+    record { name = Lock (lock_number g.setup (address_of t) / 64); named = lock_row g t geometry acts; place = ap place_in same; idle = refl; how = inl (refl, same) }
 act_word g t (stage.Releasing o) next geometry acts fits e =
     let same : next ≡ release_act (lock_bit_of g t) = cc in
-    record { name = Lock (lock_number g.setup (address_of t) / 64); named = lock_row g t geometry acts; place = ap place_in same; how = inr (inl (o, refl, same)) }
+    record { name = Lock (lock_number g.setup (address_of t) / 64); named = lock_row g t geometry acts; place = ap place_in same; idle = refl; how = inr (inl (o, refl, same)) }
 act_word g t stage.Looking next geometry acts fits e =
     let load = some_mapped act.Load (l1_place_of g (address_of t)) next e in
     on_level1 g t stage.Looking load.0 next geometry load.1 (ap place_in (sym load.2))
@@ -178,7 +181,7 @@ acts_have_places g (caller.Agent a) next made e =
     subst (λ (k : GeometryData). place_in next < word_count k) made.0
     (let on = act_word a.geometry way.0 a.stage next made.1.geometry (subst (HasActs a.geometry) way.1 made.1.acts) (subst (IsStage a.geometry a.stage) way.1 made.1.stage) way.2 in
     subst (λ (p : ℕ). p < word_count a.geometry) (sym on.place) (place_below a.geometry on.name on.named))
-acts_have_places g (caller.Cpu looks) next made e = absurd cc
+acts_have_places g (caller.Cpu q) next made e = subst (λ (k : GeometryData). place_in next < word_count k) made.0 (next_below q next made.1 e)
 
 -- what it keeps
 abbrev Keeps : GeometryData → Scene → ℕ → Caller → Act → Type 0
@@ -188,11 +191,13 @@ caller_keeps : (g : GeometryData) (s : Scene) (c : ℕ) (x : Caller) (t : Act) �
 caller_keeps g s c (caller.Agent a) t stands at next =
     let way = agent_acting g s c a t stands at next in
     subst (λ (k : GeometryData). Keeps k s c (caller.Agent a) t) way.0 (rw way.2.under_way (agent_keeps a.stage t way.2 way.3))
-caller_keeps g s c (caller.Cpu looks) t stands at next = absurd cc
+caller_keeps g s c (caller.Cpu q) t stands at next =
+    let way = cpu_accessing g s c q t stands at next in
+    subst (λ (k : GeometryData). Keeps k s c (caller.Cpu q) t) way.geometry (rw way.under_way (access_keeps q.stage t way.acting way.acts))
 
 made_of : (g : GeometryData) (x : Caller) → IsMade g x → IsCallerOf g x
 made_of g (caller.Agent a) made = (made.0, made.1)
-made_of g (caller.Cpu looks) made = tt
+made_of g (caller.Cpu q) made = (made.0, made.1)
 
 pub one_act : OneActKeeps
 one_act g s c x t stands at next =

@@ -1,12 +1,12 @@
 -- What the callers' own entries and the states tell: a legal history of their calls.
 use Rattle.std.proofs.Common.{◌≡◌, ℕ, suc, ◌+◌, ◌<◌, ◌++◌, ◌∷◌, [], List, eqb, Option, Some, None, length, map, refl, sym, ap, ◌∙◌, subst, arith, inl, inr}
-use Rattle.std.specs.Prelude.{slice_get, option_and_then}
+use Rattle.std.specs.Prelude.{slice_get, option_and_then, MatchOption}
 use Rattle.std.specs.List.{All}
 use Rattle.std.specs.Option.{option_map}
 use Rattle.std.proofs.lemmas.Bool.{cases_Bool, eq-eqb}
 use Rattle.std.proofs.lemmas.Option.{slice_get-map, slice_get_cases, slice_get_past}
 use Rattle.std.proofs.lemmas.List.Elements.{All-nil, All-cons, All-head, All-tail, All-append, All-weaker}
-use Rattle.core_machine.proofs.Names.{Gpi, granule_bytes, space_granules, GeometryData, Task, Answer, Entry, granule_in, caller_in, call_in, State, start, after_entry, granule_of, CallAllows, entries_by, call_entries, answered_entries, answer_at, Stage, AgentData, IsAgent, HasActs, IsStage, task_of, CallEvent, Caller, caller_answers, entries_at, IsPrefix, AreAllowed, IsHistoryOf}
+use Rattle.core_machine.proofs.Names.{Gpi, granule_bytes, space_granules, GeometryData, Task, Answer, Entry, granule_in, caller_in, call_in, State, start, after_entry, granule_of, CallAllows, entries_by, call_entries, answered_entries, answer_at, Stage, AgentData, IsAgent, HasActs, IsStage, task_of, CallEvent, Caller, CpuData, IsCpu, caller_answers, caller_tasks, entries_at, IsPrefix, AreAllowed, IsHistoryOf}
 use Rattle.core_machine.proofs.Names.answer
 use Rattle.core_machine.proofs.Names.caller
 use Rattle.history.specs.Calls as calls
@@ -17,6 +17,12 @@ use Rattle.core_machine.proofs.AloneLemmas.{own_first}
 use Rattle.core_machine.proofs.ActLemmas.{length_after}
 use Rattle.core_machine.proofs.EntryLemmas.{IsOwnEntry, call_allowed, IsPrefixFit, prefix_fits, prefix_allowed}
 use Rattle.delegate_ops.specs.InnerScript.{HasWalked}
+use Rattle.processor.specs.Accesses.{IsAccess}
+use Rattle.processor.specs.InnerScript as cpus
+use Rattle.processor.specs.InnerProgress as progress
+use Rattle.processor.specs.InnerEntries.{entries_at as cpu_entries}
+use Rattle.processor.specs.InnerCpus.{task_of as cpu_task}
+use Rattle.core_machine.proofs.AccessLemmas.{access_there, access_under_way, accessed_each}
 
 -- ---- an entry that its call allows
 
@@ -93,16 +99,50 @@ agent_known tasks answers c a events asks given agent stands =
     (own_task tasks c a.tasks (length a.answers) asks)
     (own_answer answers c a.answers (length a.answers) given ∙ slice_get_past a.answers (length a.answers) (omega arith)))
 
+-- ---- the entries of a processor
+
+access_known : (g : GeometryData) (tasks : List (List Task)) (answers : List (List Answer)) (c k : ℕ) (s : progress.Stage) (o : Option Task) → MatchOption o (Unit {0}) (IsAccess g) → task_at tasks c k ≡ o → answer_at answers c k ≡ None
+    → All (IsKnown g tasks answers) (cpu_entries g c k s o)
+access_known g tasks answers c k s None access asks given = All-nil (IsKnown g tasks answers)
+access_known g tasks answers c k s (Some t) access asks given =
+    let own = access_under_way g c k s t access in
+    All-weaker (IsOwnEntry g c k t own.0) (IsKnown g tasks answers)
+    (λ e is. known_of g tasks answers c k t own.0 e asks (fits_any (answer_at answers c k) own.0 given) is)
+    (cpu_entries g c k s (Some t)) own.1
+
+-- its task under way is an access
+access_way : (q : CpuData) (o : Option Task) → IsCpu q → cpu_task q ≡ o → MatchOption o (Unit {0}) (IsAccess q.geometry)
+access_way q None is under_way = tt
+access_way q (Some t) is under_way = access_there q (length q.answers) t is under_way
+
+cpu_known : (tasks : List (List Task)) (answers : List (List Answer)) (c : ℕ) (q : CpuData) (events : List CallEvent) → slice_get tasks c ≡ Some q.tasks → slice_get answers c ≡ Some q.answers
+    → IsCpu q → cpus.HasWalked c q events → All (IsKnown q.geometry tasks answers) (own_of c (caller.Cpu q))
+cpu_known tasks answers c q events asks given cpu walked =
+    All-append (IsKnown q.geometry tasks answers)
+    (answered_entries (granule_bytes q.geometry.setup) c 0 q.tasks q.answers)
+    (cpu_entries q.geometry c (length q.answers) q.stage (cpu_task q))
+    (accessed_each (IsKnown q.geometry tasks answers) q.geometry q.number c 0 q.tasks q.answers walked.calls walked.answered (λ j t there. access_there q j t cpu there)
+    (λ j t b e task_is answer_is own.
+    known_of q.geometry tasks answers c j t b e (own_task tasks c q.tasks j asks ∙ task_is)
+    (fits_given (answer_at answers c j) b (own_answer answers c q.answers j given ∙ answer_is))
+    (subst (λ (n : ℕ). IsOwnEntry q.geometry c n t b e) (let number : 0 + j ≡ j = omega arith in number) own)))
+    (access_known q.geometry tasks answers c (length q.answers) q.stage (cpu_task q) (access_way q (cpu_task q) cpu refl)
+    (own_task tasks c q.tasks (length q.answers) asks)
+    (own_answer answers c q.answers (length q.answers) given ∙ slice_get_past q.answers (length q.answers) (omega arith)))
+
 -- ---- the entries of all callers
 
--- each agent was made with this geometry and stands in its script
-abbrev pub AreMade : GeometryData → List Caller → Type 0
-AreMade g callers =
-    (c : ℕ) (a : AgentData) → slice_get callers c ≡ Some (caller.Agent a) → (a.geometry ≡ g) × IsAgent a × (events : List CallEvent) × HasWalked c a events
+-- caller c was made with this geometry, and has come to where it is by some events of its script
+abbrev pub IsWalked : GeometryData → ℕ → Caller → Type 0
+IsWalked g c (caller.Agent a) = (a.geometry ≡ g) × IsAgent a × (events : List CallEvent) × HasWalked c a events
+IsWalked g c (caller.Cpu q) = (q.geometry ≡ g) × IsCpu q × (events : List CallEvent) × cpus.HasWalked c q events
 
--- the tasks of each agent are among these
+abbrev pub AreMade : GeometryData → List Caller → Type 0
+AreMade g callers = (c : ℕ) (x : Caller) → slice_get callers c ≡ Some x → IsWalked g c x
+
+-- the tasks of each caller are among these
 abbrev pub HaveTasks : List (List Task) → List Caller → Type 0
-HaveTasks tasks callers = (c : ℕ) (a : AgentData) → slice_get callers c ≡ Some (caller.Agent a) → slice_get tasks c ≡ Some a.tasks
+HaveTasks tasks callers = (c : ℕ) (x : Caller) → slice_get callers c ≡ Some x → slice_get tasks c ≡ Some (caller_tasks x)
 
 answers_at : (callers : List Caller) (c : ℕ) (x : Caller) → slice_get callers c ≡ Some x → slice_get (map caller_answers callers) c ≡ Some (caller_answers x)
 answers_at callers c x at = slice_get-map caller_answers callers c ∙ ap (λ (o : Option Caller). option_map caller_answers o) at
@@ -110,10 +150,13 @@ answers_at callers c x at = slice_get-map caller_answers callers c ∙ ap (λ (o
 caller_known : (g : GeometryData) (tasks : List (List Task)) (callers : List Caller) (c : ℕ) (x : Caller) → slice_get callers c ≡ Some x → HaveTasks tasks callers → AreMade g callers
     → All (IsKnown g tasks (map caller_answers callers)) (own_of c x)
 caller_known g tasks callers c (caller.Agent a) at have made =
-    let is = made c a at in
+    let is = made c (caller.Agent a) at in
     subst (λ (v : GeometryData). All (IsKnown v tasks (map caller_answers callers)) (own_of c (caller.Agent a))) is.0
-    (agent_known tasks (map caller_answers callers) c a is.2 (have c a at) (answers_at callers c (caller.Agent a) at) is.1 is.3)
-caller_known g tasks callers c (caller.Cpu looks) at have made = All-nil (IsKnown g tasks (map caller_answers callers))
+    (agent_known tasks (map caller_answers callers) c a is.2 (have c (caller.Agent a) at) (answers_at callers c (caller.Agent a) at) is.1 is.3)
+caller_known g tasks callers c (caller.Cpu q) at have made =
+    let is = made c (caller.Cpu q) at in
+    subst (λ (v : GeometryData). All (IsKnown v tasks (map caller_answers callers)) (own_of c (caller.Cpu q))) is.0
+    (cpu_known tasks (map caller_answers callers) c q is.2 (have c (caller.Cpu q) at) (answers_at callers c (caller.Cpu q) at) is.1 is.3)
 
 own_rest : (Q : Entry → Type 0) (c : ℕ) (e : Entry) (h : List Entry) → All Q (entries_by c (e ∷ h)) → All Q (entries_by c h)
 own_rest Q c e h all =
@@ -174,10 +217,6 @@ under_way_of : (g : GeometryData) (c k : ℕ) (s : Stage) (o : Option Task) (mad
 under_way_of g c k s None made fits = fits
 under_way_of g c k s (Some t) made fits = (fits.0, fits.1, fits.2)
 
-none_under_way : (bytes c k : ℕ) (o : Option Task) → IsUnderWay bytes c k o []
-none_under_way bytes c k None = refl
-none_under_way bytes c k (Some t) = (answer.Inval, 0, refl)
-
 agent_calls : (c : ℕ) (a : AgentData) (h : List Entry) (events : List CallEvent) → IsAgent a → HasWalked c a events → entries_by c h ≡ own_of c (caller.Agent a)
     → calls.AreCalls (granule_bytes a.geometry.setup) c a.tasks a.answers h
 agent_calls c a h events agent stands own = record {
@@ -187,27 +226,33 @@ agent_calls c a h events agent stands own = record {
       (prefix_fits a.geometry c (length a.answers) a.stage (task_of a) stands.last agent.stage stands.under_way);
 }
 
-no_answers : (bytes c k : ℕ) (tasks : List Task) → answered_entries bytes c k tasks [] ≡ []
-no_answers bytes c k [] = refl
-no_answers bytes c k (t ∷ tasks) = refl
+access_calls : (g : GeometryData) (c k : ℕ) (s : progress.Stage) (o : Option Task) → MatchOption o (Unit {0}) (IsAccess g) → IsUnderWay (granule_bytes g.setup) c k o (cpu_entries g c k s o)
+access_calls g c k s None access = refl
+access_calls g c k s (Some t) access = let own = access_under_way g c k s t access in (own.0, own.2, own.3)
 
-cpu_calls : (bytes c : ℕ) (tasks : List Task) (h : List Entry) → entries_by c h ≡ [] → calls.AreCalls bytes c tasks [] h
-cpu_calls bytes c tasks h none = record {
-  under_way = [];
-  in_order = none ∙ ap (λ (es : List Entry). es ++ []) (sym (no_answers bytes c 0 tasks));
-  beginning = none_under_way bytes c 0 (slice_get tasks 0);
+cpu_calls : (c : ℕ) (q : CpuData) (h : List Entry) → IsCpu q → entries_by c h ≡ own_of c (caller.Cpu q) → calls.AreCalls (granule_bytes q.geometry.setup) c q.tasks q.answers h
+cpu_calls c q h cpu own = record {
+  under_way = cpu_entries q.geometry c (length q.answers) q.stage (cpu_task q);
+  in_order = own;
+  beginning = access_calls q.geometry c (length q.answers) q.stage (cpu_task q) (access_way q (cpu_task q) cpu refl);
 }
 
 caller_calls : (g : GeometryData) (callers : List Caller) (h : List Entry) (tasks : List (List Task)) (c : ℕ) (x : Caller) (own : List Task) → slice_get callers c ≡ Some x
     → HaveTasks tasks callers → AreMade g callers → entries_by c h ≡ own_of c x → slice_get tasks c ≡ Some own → calls.AreCalls (granule_bytes g.setup) c own (caller_answers x) h
 caller_calls g callers h tasks c (caller.Agent a) own at have made entries asks =
-    let is = made c a at in
-    let asked = have c a at in
+    let is = made c (caller.Agent a) at in
+    let asked = have c (caller.Agent a) at in
     let same : a.tasks ≡ own = cc in
     subst (λ (v : GeometryData). calls.AreCalls (granule_bytes v.setup) c own a.answers h) is.0
     (subst (λ (ts : List Task). calls.AreCalls (granule_bytes a.geometry.setup) c ts a.answers h) same
     (agent_calls c a h is.2 is.1 is.3 entries))
-caller_calls g callers h tasks c (caller.Cpu looks) own at have made entries asks = cpu_calls (granule_bytes g.setup) c own h entries
+caller_calls g callers h tasks c (caller.Cpu q) own at have made entries asks =
+    let is = made c (caller.Cpu q) at in
+    let asked = have c (caller.Cpu q) at in
+    let same : q.tasks ≡ own = cc in
+    subst (λ (v : GeometryData). calls.AreCalls (granule_bytes v.setup) c own q.answers h) is.0
+    (subst (λ (ts : List Task). calls.AreCalls (granule_bytes q.geometry.setup) c ts q.answers h) same
+    (cpu_calls c q h is.1 entries))
 
 given_calls : (g : GeometryData) (first : List Gpi) (callers : List Caller) (h : List Entry) (tasks : List (List Task)) (c : ℕ) (own : List Task) (given : List Answer)
     → IsHistoryOf first callers h → HaveTasks tasks callers → AreMade g callers → slice_get tasks c ≡ Some own → slice_get (map caller_answers callers) c ≡ Some given

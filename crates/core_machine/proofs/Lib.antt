@@ -15,11 +15,14 @@ pub mod LoadActs
 pub mod ChangeActs
 pub mod RaiseActs
 pub mod BlockActs
+pub mod CpuActs
 pub mod LawLemmas
 pub mod MachineLemmas
+pub mod NumberLemmas
 pub mod CallLemmas
 pub mod OpeningLemmas
 pub mod EntryLemmas
+pub mod AccessLemmas
 pub mod LegalLemmas
 pub mod PlayLemmas
 pub mod FitLemmas

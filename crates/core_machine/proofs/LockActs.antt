@@ -5,7 +5,7 @@ use Rattle.std.specs.Int.{bit_not, w64}
 use Rattle.std.specs.Int.Bits.{bit_and, bit_or}
 use Rattle.std.specs.List.{list_any}
 use Rattle.std.proofs.lemmas.Bool.{cases_Bool, eqb-true, eq-eqb}
-use Rattle.core_machine.proofs.Names.{Gpi, Size, granule_bytes, GeometryData, Lock, Act, answer_of, after_act, lock_bit, take_act, release_act, Task, Answer, Entry, is_by, entries_by, answered_entries, Stage, idle_answer, AgentData, idle_answers, goes_to, took_at, Caller, holds, holder_by, Sees, open_by, is_due, known_answers, caller_tasks, IsMade, Whole, step_of, HoldsIn, Scene, scene_after, IsCounted, lock_bit_of, made_at, known_at}
+use Rattle.core_machine.proofs.Names.{Gpi, Size, granule_bytes, GeometryData, Lock, Act, answer_of, after_act, lock_bit, take_act, release_act, Task, Answer, Entry, is_by, entries_by, answered_entries, Stage, idle_answer, AgentData, idle_answers, goes_to, took_at, Caller, number_by, holds, holder_by, Sees, open_by, is_due, known_answers, caller_tasks, IsMade, Whole, step_of, HoldsIn, Scene, scene_after, IsCounted, lock_bit_of, made_at, known_at}
 use Rattle.core_machine.proofs.Names.stage
 use Rattle.core_machine.proofs.Names.caller
 use Rattle.delegate_ops.specs.InnerAgents.{IsReadable, answered_first, waits_at, after_answer}
@@ -15,7 +15,7 @@ use Rattle.core_machine.specs.InnerInvariant.{IsAlone}
 use Rattle.core_machine.proofs.ListLemmas.{one, get_append}
 use Rattle.core_machine.proofs.LockLemmas.{holder_bit, take_free, take_held, release_held}
 use Rattle.core_machine.proofs.WordLemmas.{writes_one}
-use Rattle.core_machine.proofs.StepLemmas.{aside_keeps}
+use Rattle.core_machine.proofs.StepLemmas.{aside_keeps, no_duty}
 use Rattle.core_machine.proofs.ToldLemmas.{answered_call, idle_is}
 use Rattle.core_machine.proofs.AloneLemmas.{alone_starts, own_numbers, no_own}
 use Rattle.core_machine.proofs.ActLemmas.{Acting, low_of, lock_of_task}
@@ -27,14 +27,14 @@ ActKeeps s c a t st next =
     × HoldsIn a.geometry (scene_after s c (caller.Agent (took_at (at_stage a st) t st (answer_of next s.words))) (after_act next s.words) (made_at a.geometry c (length a.answers) st (Some t) (answer_of next s.words)))
 
 -- a write of its lock word by a caller that goes on with nothing open and nothing due
-lock_keeps : {s : Scene} {c : ℕ} {a : AgentData} {t : Task} {st : Stage} (acting : Acting s c a t st) (v : ℕ) (x : Caller) → IsMade a.geometry x → open_by x ≡ open_by (caller.Agent (at_stage a st))
+lock_keeps : {s : Scene} {c : ℕ} {a : AgentData} {t : Task} {st : Stage} (acting : Acting s c a t st) (v : ℕ) (x : Caller) → IsMade a.geometry x → number_by x ≡ None → open_by x ≡ open_by (caller.Agent (at_stage a st))
     → ((y : Size) (region : ℕ) → is_due y region x ≡ is_due y region (caller.Agent (at_stage a st))) → ((m : ℕ → Gpi) (after : List ℕ) → Sees m after x)
     → step_of (known_at st) ≡ Whole → (holder_by x).step ≡ Whole
     → ((m : ℕ) → m < 128 → lock_bit (set s.words (lock_of_task a t / 64) v) m + one (holds m (caller.Agent (at_stage a st))) ≡ lock_bit s.words m + one (holds m x))
     → ((m : ℕ) → holds m x ≡ true → IsAlone a.geometry.setup m c (call_of x) s.history)
     → ((k : ℕ) (u : Task) (given : Answer) → slice_get (caller_tasks x) k ≡ Some u → slice_get (known_answers x) k ≡ Some given → IsCounted a.geometry c k u given s.history)
     → own_of c x ≡ own_of c (caller.Agent (at_stage a st)) → HoldsIn a.geometry (scene_after s c x (set s.words (lock_of_task a t / 64) v) [])
-lock_keeps {s = s} {c = c} {a = a} {t = t} {st = st} acting v x made opened due sees before whole locks alone counted own =
+lock_keeps {s = s} {c = c} {a = a} {t = t} {st = st} acting v x made none opened due sees before whole locks alone counted own =
     aside_keeps {n = Some (Lock (lock_of_task a t / 64))} (record {
       stands = acting.stands;
       at = acting.at;
@@ -42,7 +42,7 @@ lock_keeps {s = s} {c = c} {a = a} {t = t} {st = st} acting v x made opened due 
       writes = writes_one a.geometry s.words (Lock (lock_of_task a t / 64)) v (omega (arith, low_of acting));
       no_level1 = refl;
       no_generation = refl;
-      idle = refl;
+      duty = no_duty refl none refl;
       before = before;
       whole = whole;
       opened = opened;
@@ -76,13 +76,13 @@ take_keeps {s = s} {c = c} {a = a} {t = t} acting =
       elim (cases_Bool (eqb (bit_and word (2 ^ (n % 64))) 0)) [
         | inl free ↦
             rw free
-            (lock_keeps acting (bit_or word (2 ^ (n % 64))) (caller.Agent (goes_to me stage.Looking)) (rw free at made) refl (λ y region. refl) (λ m after u under_way. record { known = tt; gives = tt; generations = tt }) refl refl
+            (lock_keeps acting (bit_or word (2 ^ (n % 64))) (caller.Agent (goes_to me stage.Looking)) (rw free at made) refl refl (λ y region. refl) (λ m after u under_way. record { known = tt; gives = tt; generations = tt }) refl refl
             (λ m below. rw acting.under_way (take_free s.words n m within (eqb-true _ _ free)))
             (λ m has. alone_starts a.geometry.setup m c (length a.answers) s.history (none_yet acting))
             (λ k u given asked answered. counted k (caller.Agent me) u given acting.at asked answered) refl)
         | inr held ↦
             rw held
-            (lock_keeps acting (bit_or word (2 ^ (n % 64))) (caller.Agent (waits_at me)) (rw held at made) refl (λ y region. refl) (λ m after u under_way. record { known = tt; gives = tt; generations = tt }) refl refl
+            (lock_keeps acting (bit_or word (2 ^ (n % 64))) (caller.Agent (waits_at me)) (rw held at made) refl refl (λ y region. refl) (λ m after u under_way. record { known = tt; gives = tt; generations = tt }) refl refl
             (λ m below. ap (λ (bit : ℕ). bit + 0) (take_held s.words n m within (λ free. absurd (let both = eq-eqb _ _ free in cc)))) (λ m has. absurd cc)
             (λ k u given asked answered. counted k (caller.Agent me) u given acting.at asked answered) refl)
       ],
@@ -115,7 +115,7 @@ release_keeps {s = s} {c = c} {a = a} {t = t} given acting =
     let has : holds n (caller.Agent me) ≡ true = rw acting.under_way (eq-eqb n n refl) in
     let set_bit : lock_bit s.words n ≡ 1 = holder_bit s.words s.callers c n (caller.Agent me) acting.at acting.stands.locks (low_of acting) has in (
       tt,
-      lock_keeps acting (bit_and (slice_index s.words (n / 64)) (bit_not w64 (2 ^ (n % 64)))) (caller.Agent (after_answer me given)) (acting.made 0) refl (λ y region. refl) (λ m after u under_way. record { known = tt; gives = tt; generations = tt }) refl refl
+      lock_keeps acting (bit_and (slice_index s.words (n / 64)) (bit_not w64 (2 ^ (n % 64)))) (caller.Agent (after_answer me given)) (acting.made 0) refl refl (λ y region. refl) (λ m after u under_way. record { known = tt; gives = tt; generations = tt }) refl refl
           (λ m below. rw acting.under_way (release_held s.words n m within set_bit))
           (λ m has_it. absurd cc)
           (λ k u found asked answered.

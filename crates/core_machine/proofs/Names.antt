@@ -2,12 +2,12 @@
 pub use Rattle.bit_locks.specs.Locks.{lock_bit, lock_number, release_act, take_act}
 pub use Rattle.core_machine.specs.Facts.{IsCounted, generation_word, is_on_block}
 pub use Rattle.core_machine.specs.InnerAgentCaller.{SeesAt, SeesGeneration, comes_before, coming_at, is_around, is_due_at, is_inside, known_at, open_at}
-pub use Rattle.core_machine.specs.InnerCallers.{IsMade, Sees, caller_answers, caller_next, caller_tasks, caller_took, holder_by, holds, is_due, known_answers, open_by}
-pub use Rattle.core_machine.specs.InnerInvariant.{AreAllowed, HoldsIn, IsHistoryOf, pairs_of}
+pub use Rattle.core_machine.specs.InnerCallers.{IsMade, Sees, caller_answers, caller_next, caller_tasks, caller_took, duty_by, holder_by, holds, is_due, known_answers, number_by, open_by}
+pub use Rattle.core_machine.specs.InnerInvariant.{AreAllowed, DutyOfEach, HoldsIn, IsHistoryOf, NoLines, NumbersDiffer, pairs_of}
 pub use Rattle.core_machine.specs.InnerMachine.{InvariantFor, MachineData, after_turn, after_turns, scene_of, trace_of}
-pub use Rattle.core_machine.specs.InnerPlay.{caller_of, opening_of, played}
+pub use Rattle.core_machine.specs.InnerPlay.{caller_of, callers_from, next_number, opening_of, played}
 pub use Rattle.core_machine.specs.InnerScene.{Scene, map_in, scene_after, state_in}
-pub use Rattle.core_machine.specs.Scenarios.{first_map, geometry_of, map_at, task_of_ask, turns_in}
+pub use Rattle.core_machine.specs.Scenarios.{cpu_number, first_map, geometry_of, is_cpu, map_at, task_of_ask, task_of_look, turns_in}
 pub use Rattle.core_machine.specs.Trace.{TraceEvent, history_of}
 pub use Rattle.core_machine.specs.declared.caller.Caller.{Caller}
 pub use Rattle.delegate_ops.specs.Deciding.{address_of, generation_in, granule_place, idle_answer, worn_answer}
@@ -24,7 +24,7 @@ pub use Rattle.gpi_values.specs.declared.gpi.Gpi.{Gpi}
 pub use Rattle.gpt_descriptors.specs.Canonical.{canonical_word}
 pub use Rattle.gpt_descriptors.specs.Entries.{word_gpi}
 pub use Rattle.gpt_descriptors.specs.Level0.{l1_index}
-pub use Rattle.gpt_descriptors.specs.Places.{Generation, GeometryData, IsGeometry, IsWordName, Level1, Lock, WordName, blocks_in_region, gen_place_of, l0_words, l1_index_of, l1_place_of, l1_words, place_of, word_count}
+pub use Rattle.gpt_descriptors.specs.Places.{Duty, Generation, GeometryData, IsGeometry, IsWordName, Level1, Lock, WordName, blocks_in_region, gen_place_of, l0_words, l1_index_of, l1_place_of, l1_words, Line, place_of, word_count}
 pub use Rattle.gpt_descriptors.specs.Sizes.{SetupData, granule_bytes, size_bytes, space_bytes, space_granules, space_words, table_words, words_of}
 pub use Rattle.gpt_descriptors.specs.declared.size.Generations.{Generations}
 pub use Rattle.gpt_descriptors.specs.declared.size.Size.{Size}
@@ -36,6 +36,7 @@ pub use Rattle.history.specs.States.{State, after_entry, start, state_after}
 pub use Rattle.history.specs.declared.call.Answer.{Answer}
 pub use Rattle.history.specs.declared.call.Task.{Task}
 pub use Rattle.history.specs.declared.entry.Entry.{Entry}
+pub use Rattle.processor.specs.InnerCpus.{CpuData, IsCpu}
 pub use Rattle.scenario_text.specs.declared.scenario.Scenario.{Scenario}
 pub use Rattle.scenario_text.specs.declared.scenario.Script.{Script}
 pub use Rattle.shared_words.specs.Acts.{after_act, answer_of, place_in}

@@ -10,12 +10,12 @@ use Rattle.std.proofs.Math.Nat.{div-lt_iff_lt-mul}
 use Rattle.std.proofs.lemmas.List.FromFn.{length-map-range_with_len, get_or-map-range_with_len}
 use Rattle.std.proofs.lemmas.Nat.{div_below}
 use Rattle.std.proofs.lemmas.Option.{get_or_from_slice_get, slice_get_within}
-use Rattle.core_machine.proofs.Names.{Gpi, Size, SetupData, granule_bytes, words_of, table_words, space_words, space_granules, canonical_word, l1_index, GeometryData, IsGeometry, Lock, Generation, Level1, place_of, l0_words, l1_words, Holder, Whole, Task, Answer, caller_in, answered_entries, AgentData, IsAgent, idle_answers, IsMade, Sees, holds, is_due, known_answers, open_by, holder_by, HoldsIn, pairs_of, Caller, map_at, IsCounted}
+use Rattle.core_machine.proofs.Names.{Gpi, Size, SetupData, granule_bytes, words_of, table_words, space_words, space_granules, canonical_word, l1_index, GeometryData, IsGeometry, Lock, Duty, Generation, Level1, Line, place_of, l0_words, l1_words, Holder, Whole, Task, Answer, caller_in, answered_entries, AgentData, IsAgent, CpuData, IsCpu, idle_answers, IsMade, Sees, holds, duty_by, NumbersDiffer, is_due, known_answers, open_by, holder_by, HoldsIn, pairs_of, Caller, map_at, IsCounted}
 use Rattle.core_machine.proofs.Names.gpi
 use Rattle.core_machine.proofs.Names.size
 use Rattle.core_machine.proofs.Names.caller
 use Rattle.gpt_descriptors.specs.Entries.{l0_entry}
-use Rattle.gpt_descriptors.specs.Places.{Duty, Line, block_gpi_in}
+use Rattle.gpt_descriptors.specs.Places.{block_gpi_in}
 use Rattle.gpt_descriptors.proofs.SizeLemmas.{table_is}
 use Rattle.gpt_descriptors.proofs.CanonicalLemmas.{words_some}
 use Rattle.table_meaning.specs.Meaning.{BlocksMean}
@@ -29,7 +29,12 @@ use Rattle.table_build.proofs.MeaningLemmas.{built_word, built_block}
 use Rattle.shared_words.specs.Start.{start_words}
 use Rattle.shared_words.proofs.StartLemmas.{start_count, start_named}
 use Rattle.delegate_ops.proofs.ScriptLemmas.{fresh_walked}
+use Rattle.processor.specs.InnerCpus as cpus
+use Rattle.processor.proofs.EntryLemmas.{fresh_quiet}
+use Rattle.processor.proofs.ScriptLemmas.{fresh_walked as cpu_fresh_walked}
 use Rattle.core_machine.proofs.AloneLemmas.{undisturbed_empty}
+use Rattle.core_machine.proofs.CpuActs.{cpu_counted}
+use Rattle.core_machine.proofs.StepLemmas.{number_low}
 use Rattle.core_machine.proofs.ListLemmas.{count_none}
 use Rattle.core_machine.proofs.LockActs.{idle_counted}
 use Rattle.core_machine.proofs.ToldLemmas.{idle_entries}
@@ -123,6 +128,7 @@ pub record IsAtRest (g : GeometryData) (x : Caller) : Type 0 where
   pub sees : (m : ℕ → Gpi) (words : List ℕ) → Sees m words x
   pub own : (c : ℕ) → own_of c x ≡ []
   pub counted : (c k : ℕ) (u : Task) (given : Answer) → slice_get (known_answers x) k ≡ Some given → IsCounted g c k u given []
+  pub off : duty_by x ≡ 0
 
 fresh_rests : (g : GeometryData) (x : Caller) → IsFresh g x → IsAtRest g x
 fresh_rests g (caller.Agent a) is =
@@ -136,9 +142,23 @@ fresh_rests g (caller.Agent a) is =
       sees = λ m words t under_way. record { known = tt; gives = tt; generations = tt };
       own = λ c. append-nil (answered_entries (granule_bytes g.setup) c 0 a.tasks (idle_answers g a.tasks)) ∙ idle_entries g (granule_bytes g.setup) c 0 a.tasks;
       counted = λ c k u given answered. idle_counted g c k k a.tasks u given [] (subst (λ (answers : List Answer). slice_get answers k ≡ Some given) (append-nil (idle_answers g a.tasks)) answered);
+      off = refl;
     })
-fresh_rests g (caller.Cpu looks) is =
-    record { made = tt; free = λ n. refl; closed = refl; raised = λ y region. refl; whole = refl; sees = λ m words. tt; own = λ c. refl; counted = λ c k u given answered. absurd cc }
+fresh_rests g (caller.Cpu q) is =
+    let p : ℕ = q.number in
+    let made : IsMade g (caller.Cpu (cpus.fresh g p q.tasks)) = (refl, subst IsCpu is.0 is.1, 0, [], cpu_fresh_walked g p q.tasks 0) in
+    subst (λ (r : CpuData). IsAtRest g (caller.Cpu r)) (sym is.0)
+    (record {
+      made = made;
+      free = λ n. refl;
+      closed = refl;
+      raised = λ y region. refl;
+      whole = refl;
+      sees = λ m words. tt;
+      own = λ c. fresh_quiet g p q.tasks c;
+      counted = λ c k u given answered. cpu_counted g c k u (cpus.fresh g p q.tasks) given [] made answered;
+      off = refl;
+    })
 
 -- each caller of a fresh list
 pub rests_at : (g : GeometryData) (callers : List Caller) (c : ℕ) (x : Caller) → All (IsFresh g) callers → slice_get callers c ≡ Some x → IsAtRest g x
@@ -162,8 +182,8 @@ opening_tables g first callers words fresh_all starting = record {
   blocks = starting.blocks;
 }
 
-pub opening_invariant : (g : GeometryData) (first : List Gpi) (callers : List Caller) (words : List ℕ) → All (IsFresh g) callers → AreStarting g first words → HoldsIn g (record { first = first; words = words; callers = callers; history = [] })
-opening_invariant g first callers words fresh_all starting =
+pub opening_invariant : (g : GeometryData) (first : List Gpi) (callers : List Caller) (words : List ℕ) → All (IsFresh g) callers → NumbersDiffer callers → AreStarting g first words → HoldsIn g (record { first = first; words = words; callers = callers; history = [] })
+opening_invariant g first callers words fresh_all differ starting =
     let rests = λ (c : ℕ) (x : Caller) (at : slice_get callers c ≡ Some x). rests_at g callers c x fresh_all at in
     record {
       shape = record {
@@ -183,5 +203,7 @@ opening_invariant g first callers words fresh_all starting =
       alone = λ c n x at has. absurd (let both : true ≡ false = sym has ∙ (rests c x at).free n in cc);
       counted = λ c k x u given at asked answered. (rests c x at).counted c k u given answered;
       history = record { allowed = tt; own = λ c x at. sym ((rests c x at).own c); known = All-nil (λ e. caller_in e < length callers) };
-      idle = record { duty = starting.duty; lines = starting.lines };
+      duties = λ c p x at is. let rest = rests c x at in starting.duty p (number_low g x p rest.made is) ∙ sym rest.off;
+      numbers = differ;
+      lines = starting.lines;
     }

@@ -1,11 +1,10 @@
 -- A scenario's machine before the first act, and what its turns leave.
-use Rattle.std.proofs.Common.{◌≡◌, ℕ, ◌++◌, ◌∷◌, [], List, ◌-◌, map, replicate, length, take, false, refl, sym, ap, ◌∙◌, subst}
-use Rattle.std.specs.List.{All, AllByRecursion, flat_map}
+use Rattle.std.proofs.Common.{◌≡◌, ℕ, ◌+◌, ◌≤◌, ◌<◌, arith, ◌++◌, ◌∷◌, [], List, ◌-◌, map, replicate, length, take, false, refl, sym, ap, ◌∙◌, subst}
+use Rattle.std.specs.List.{All, AllByRecursion, count_by, flat_map}
 use Rattle.std.proofs.Math.Seq.{take-append_seam}
-use Rattle.std.proofs.lemmas.List.{length-map}
 use Rattle.std.proofs.lemmas.List.FromFn.{length-map-range_with_len}
 use Rattle.std.proofs.lemmas.List.Elements.{All-nil, All-cons, All-from_recursion}
-use Rattle.core_machine.proofs.Names.{GeometryData, IsGeometry, l0_words, Scenario, Script, Task, IsAgent, is_look, task_of, fresh, Caller, MachineData, InvariantFor, after_turns, trace_of, history_of, caller_of, opening_of, played, first_map, geometry_of, task_of_ask, turns_in}
+use Rattle.core_machine.proofs.Names.{GeometryData, IsGeometry, l0_words, Scenario, Script, Task, IsAgent, is_look, task_of, fresh, Caller, NumbersDiffer, MachineData, InvariantFor, after_turns, trace_of, history_of, caller_of, callers_from, next_number, opening_of, played, first_map, geometry_of, is_cpu, task_of_ask, task_of_look, turns_in}
 use Rattle.core_machine.proofs.Names.script
 use Rattle.gpt_descriptors.specs.Entries.{l0_word}
 use Rattle.region_plan.specs.Regions.{region_l0, region_entry}
@@ -14,14 +13,20 @@ use Rattle.table_build.specs.Built.{tables_of, region_l1}
 use Rattle.shared_words.specs.Start.{start_words}
 use Rattle.scenario_text.specs.declared.scenario.Slot.{Slot}
 use Rattle.scenario_text.specs.declared.scenario.Slot.TheVariants as slot
-use Rattle.scenario_text.specs.Spelling.{IsSlot, WellFormed}
+use Rattle.scenario_text.specs.Spelling.{IsScript, IsSlot, WellFormed}
 use Rattle.delegate_ops.proofs.AgentLemmas.{idle_few, idle_then_acts, locking_fits}
 use Rattle.core_machine.specs.InnerCallers.{IsFresh}
 use Rattle.core_machine.specs.InnerOpening.{AreStarting}
 use Rattle.core_machine.specs.InnerPlay.{NamesCaller}
 use Rattle.core_machine.proofs.CallLemmas.{asks_no_looks}
 use Rattle.core_machine.proofs.MachineLemmas.{turns_hold}
-use Rattle.core_machine.proofs.OpeningLemmas.{opening_invariant, built_starts}
+use Rattle.core_machine.proofs.OpeningLemmas.{built_starts}
+use Rattle.core_machine.proofs.ListLemmas.{count_cons}
+use Rattle.core_machine.proofs.NumberLemmas.{callers_count, next_is, numbers_differ}
+use Rattle.gpt_descriptors.specs.Sizes.{space_bytes}
+use Rattle.scenario_text.specs.declared.scenario.Look.{Look}
+use Rattle.processor.specs.Accesses.{IsAccess}
+use Rattle.processor.proofs.CpuLemmas.{fresh_is_cpu}
 use Rattle.core_machine.specs.Scenarios.{IsAccepted, slot_turns}
 
 -- ---- callers
@@ -35,15 +40,31 @@ fresh_is_agent g tasks geometry no_looks = record {
   stage = locking_fits g (task_of (fresh g tasks));
 }
 
-caller_fresh : (g : GeometryData) (s : Script) → IsGeometry g → IsFresh g (caller_of g s)
-caller_fresh g (script.Agent asks) geometry =
-    (refl, fresh_is_agent g (map task_of_ask asks) geometry (asks_no_looks asks))
-caller_fresh g (script.Cpu looks) geometry = tt
+pub looks_inside : (g : GeometryData) (looks : List Look) → AllByRecursion (λ look. look.pa < space_bytes g.setup) looks → All (IsAccess g) (map task_of_look looks)
+looks_inside g [] inside = All-nil (IsAccess g)
+looks_inside g (look ∷ looks) inside = All-cons (IsAccess g) (task_of_look look) (map task_of_look looks) inside.0 (looks_inside g looks inside.1)
 
-pub callers_fresh : (g : GeometryData) (scripts : List Script) → IsGeometry g → All (IsFresh g) (map (caller_of g) scripts)
-callers_fresh g [] geometry = All-nil (IsFresh g)
-callers_fresh g (s ∷ scripts) geometry =
-    All-cons (IsFresh g) (caller_of g s) (map (caller_of g) scripts) (caller_fresh g s geometry) (callers_fresh g scripts geometry)
+caller_fresh : (g : GeometryData) (p : ℕ) (s : Script) → IsGeometry g → IsScript g.setup s → next_number p s ≤ g.cpus → IsFresh g (caller_of g p s)
+caller_fresh g p (script.Agent asks) geometry formed few =
+    (refl, fresh_is_agent g (map task_of_ask asks) geometry (asks_no_looks asks))
+caller_fresh g p (script.Cpu looks) geometry formed few =
+    (refl, fresh_is_cpu g p (map task_of_look looks) geometry (omega (arith, few)) (looks_inside g looks formed))
+
+pub next_few : (p n : ℕ) (s : Script) (scripts : List Script) → p + count_by is_cpu (s ∷ scripts) ≤ n → next_number p s + count_by is_cpu scripts ≤ n
+next_few p n s scripts few = omega (arith, few, next_is p s, count_cons is_cpu scripts s)
+
+pub callers_fresh : (g : GeometryData) (p : ℕ) (scripts : List Script) → IsGeometry g → AllByRecursion (IsScript g.setup) scripts → p + count_by is_cpu scripts ≤ g.cpus → All (IsFresh g) (callers_from g p scripts)
+callers_fresh g p [] geometry formed few = All-nil (IsFresh g)
+callers_fresh g p (s ∷ scripts) geometry formed few =
+    let rest = next_few p g.cpus s scripts few in
+    All-cons (IsFresh g) (caller_of g p s) (callers_from g (next_number p s) scripts) (caller_fresh g p s geometry formed.0 (omega (arith, rest))) (callers_fresh g (next_number p s) scripts geometry formed.1 rest)
+
+-- those of a scenario
+pub fresh_at : (s : Scenario) (g : GeometryData) (callers : List Caller) → WellFormed s → g ≡ geometry_of s → IsGeometry g → callers ≡ callers_from g 0 s.scripts → All (IsFresh g) callers × NumbersDiffer callers
+fresh_at s g callers formed so geometry is =
+    let scripts = subst (λ (k : GeometryData). AllByRecursion (IsScript k.setup) s.scripts) (sym so) formed.scripts in
+    let few : 0 + count_by is_cpu s.scripts ≤ g.cpus = omega (arith, ap (λ (k : GeometryData). k.cpus) so) in
+    (subst (All (IsFresh g)) (sym is) (callers_fresh g 0 s.scripts geometry scripts few), subst NumbersDiffer (sym is) (numbers_differ g 0 s.scripts))
 
 -- ---- words
 
@@ -65,11 +86,6 @@ slots_name n (slot.Round turns times ∷ schedule) slots = (tt, slots_name n sch
 pub schedule_names : (s : Scenario) → WellFormed s → All (NamesCaller (length s.scripts)) s.schedule
 schedule_names s formed = All-from_recursion (NamesCaller (length s.scripts)) s.schedule (slots_name (length s.scripts) s.schedule formed.slots)
 
--- the opening stands for the empty history, and what is played for the history of its trace
-pub opening_so : (s : Scenario) → IsAccepted s → IsGeometry (geometry_of s) → AreTables (tables_of s.setup s.regions) → InvariantFor (first_map s) (opening_of s) []
-opening_so s accepted geometry tables =
-    opening_invariant (geometry_of s) (first_map s) _ _ (callers_fresh (geometry_of s) s.scripts geometry) (opening_starts s accepted geometry tables)
-
 -- ---- the code's machine
 
 words_at : (s : Scenario) (g : GeometryData) (t : TableData) (l1 words : List ℕ) → g ≡ geometry_of s → t ≡ tables_of s.setup s.regions → l1 ≡ t.l1 → words ≡ start_words g l1
@@ -83,12 +99,12 @@ starts_at s g t l1 words accepted so geometry built tables l1_is words_is =
     let own = opening_starts s accepted (subst IsGeometry so geometry) (subst AreTables built tables) in
     subst (λ (k : GeometryData). AreStarting k (first_map s) words) (sym so) (subst (AreStarting (geometry_of s) (first_map s)) (sym (words_at s g t l1 words so built l1_is words_is)) own)
 
-pub opened_is : (s : Scenario) (g : GeometryData) (t : TableData) (l1 words : List ℕ) (callers : List Caller) → g ≡ geometry_of s → t ≡ tables_of s.setup s.regions → l1 ≡ t.l1 → words ≡ start_words g l1 → callers ≡ map (caller_of g) s.scripts
+pub opened_is : (s : Scenario) (g : GeometryData) (t : TableData) (l1 words : List ℕ) (callers : List Caller) → g ≡ geometry_of s → t ≡ tables_of s.setup s.regions → l1 ≡ t.l1 → words ≡ start_words g l1 → callers ≡ callers_from g 0 s.scripts
     → record { geometry = g; callers = callers; words = words } ≡ opening_of s
 opened_is s g t l1 words callers so built l1_is words_is callers_is = rw (words_at s g t l1 words so built l1_is words_is, callers_is, so) refl
 
 callers_of_opening : (s : Scenario) (m : MachineData) → m ≡ opening_of s → length m.callers ≡ length s.scripts
-callers_of_opening s m so = ap (λ (k : MachineData). length k.callers) so ∙ length-map s.scripts (caller_of (geometry_of s))
+callers_of_opening s m so = ap (λ (k : MachineData). length k.callers) so ∙ callers_count (geometry_of s) 0 s.scripts
 
 pub names_at : (s : Scenario) (m : MachineData) → m ≡ opening_of s → WellFormed s → All (NamesCaller (length m.callers)) s.schedule
 names_at s m so formed = subst (λ (n : ℕ). All (NamesCaller n) s.schedule) (sym (callers_of_opening s m so)) (schedule_names s formed)

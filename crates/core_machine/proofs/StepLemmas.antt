@@ -1,15 +1,16 @@
 -- A step of one caller keeps the facts of the core: what it has to show of the word that it writes, of its own state and
 -- of the entry that it makes.
 use Rattle.std.proofs.Common.{◌≡◌, ◌≢◌, ℕ, ◌+◌, ◌*◌, ◌<◌, ◌⊎◌, ◌++◌, ◌∷◌, [], List, map, true, false, ◌&&◌, eqb, Option, Some, None, set, refl, sym, ap, ◌∙◌, subst, arith, inl, inr, append-nil}
-use Rattle.std.specs.Prelude.{slice_get, IfSome}
+use Rattle.std.specs.Prelude.{slice_get, slice_index, IfSome}
 use Rattle.std.proofs.lemmas.Bool.{cases_Bool, eqb-true, eq-eqb}
 use Rattle.std.specs.Option.{option_map}
 use Rattle.std.proofs.lemmas.Option.{slice_get-map}
 use Rattle.std.proofs.lemmas.List.{get_or-set_other, map-set}
 use Rattle.std.proofs.lemmas.List.Elements.{All-set}
-use Rattle.core_machine.proofs.Names.{Gpi, Size, granule_bytes, GeometryData, WordName, blocks_in_region, canonical_word, lock_bit, Holder, Whole, apart_by, Task, Answer, Entry, caller_in, call_in, granule_in, State, start, after_entry, state_after, is_by, region_of, count_of, Caller, holder_by, holds, open_by, Sees, is_due, known_answers, caller_tasks, IsMade, AreAllowed, HoldsIn, Scene, state_in, map_in, scene_after, map_at, IsCounted, generation_word, is_on_block}
+use Rattle.core_machine.proofs.Names.{Gpi, Size, granule_bytes, GeometryData, WordName, Duty, place_of, blocks_in_region, canonical_word, lock_bit, Holder, Whole, apart_by, Task, Answer, Entry, caller_in, call_in, granule_in, State, start, after_entry, state_after, is_by, region_of, count_of, Caller, number_by, duty_by, NumbersDiffer, holder_by, holds, open_by, Sees, is_due, known_answers, caller_tasks, IsMade, AreAllowed, HoldsIn, Scene, state_in, map_in, scene_after, map_at, IsCounted, generation_word, is_on_block}
 use Rattle.core_machine.proofs.Names.gpi
 use Rattle.core_machine.proofs.Names.entry
+use Rattle.core_machine.proofs.Names.caller
 use Rattle.table_meaning.proofs.EquationLemmas.{whole_turns, still_words}
 use Rattle.history.specs.Legality.{StateAllows}
 use Rattle.history.specs.Counts.{is_change, is_completion}
@@ -17,12 +18,12 @@ use Rattle.history.proofs.HistoryLemmas.{state_after-append}
 use Rattle.core_machine.specs.InnerCallers.{own_of, call_of}
 use Rattle.core_machine.specs.InnerInvariant.{AreTables, OpenAreHeld, IsAlone}
 use Rattle.core_machine.specs.Facts.{AreUndisturbed}
-use Rattle.core_machine.proofs.ListLemmas.{one, count_set, each_set}
+use Rattle.core_machine.proofs.ListLemmas.{one, count_set, each_set, get_set}
 use Rattle.core_machine.proofs.LockLemmas.{locks_keep}
 use Rattle.core_machine.proofs.AddressLemmas.{lock_of}
-use Rattle.core_machine.proofs.CallerLemmas.{held_once, others_closed, placed_at}
+use Rattle.core_machine.proofs.CallerLemmas.{held_once, made_at_place, others_closed, placed_at}
 use Rattle.core_machine.proofs.OpenedLemmas.{opened_after, opened_stays, opened_changes}
-use Rattle.core_machine.proofs.WordLemmas.{Writes, IsApart, block_left, plain_apart, is_generation, is_level1, is_idle, generations_left, words_left, idle_left}
+use Rattle.core_machine.proofs.WordLemmas.{Writes, IsApart, block_left, plain_apart, is_generation, is_level1, is_idle, is_line, idle_duty, idle_line, generations_left, words_left, lines_left}
 use Rattle.core_machine.proofs.ToldLemmas.{IsAdded, history_keeps}
 use Rattle.core_machine.proofs.AloneLemmas.{undisturbed_more, alone_own, alone_other}
 use Rattle.core_machine.proofs.CountedLemmas.{counted_more, count_more}
@@ -55,6 +56,43 @@ abbrev pub opened_with : Option Entry → List (ℕ × Gpi) → List (ℕ × Gpi
 opened_with None pairs = pairs
 opened_with (Some e) pairs = opened_after e pairs
 
+-- ---- duty words
+
+-- A caller that steps keeps its number, writes no duty word but its own and no line, and its duty word is as it is to be.
+pub record MindsDuty (g : GeometryData) (me x : Caller) (n : Option WordName) (after : List ℕ) : Type 0 where
+  pub line : is_line n ≡ false
+  pub number : number_by x ≡ number_by me
+  pub own : (p : ℕ) → n ≡ Some (Duty p) → number_by me ≡ Some p
+  pub word : (p : ℕ) → number_by x ≡ Some p → slice_index after (place_of g (Duty p)) ≡ duty_by x
+
+-- one that is no processor writes none
+pub no_duty : {g : GeometryData} {me x : Caller} {n : Option WordName} {after : List ℕ} → number_by me ≡ None → number_by x ≡ None → is_idle n ≡ false → MindsDuty g me x n after
+no_duty {n = n} before none idle = record {
+  line = idle_line n idle;
+  number = none ∙ sym before;
+  own = λ p same. absurd (idle_duty n p idle same);
+  word = λ p is. absurd (let both : None ≡ Some p = sym none ∙ is in cc);
+}
+
+pub number_low : (g : GeometryData) (x : Caller) (p : ℕ) → IsMade g x → number_by x ≡ Some p → p < g.cpus
+number_low g (caller.Agent a) p made is = absurd cc
+number_low g (caller.Cpu q) p made is = let same : q.number ≡ p = cc in subst (λ (n : ℕ). n < g.cpus) same (subst (λ (k : GeometryData). q.number < k.cpus) made.0 made.1.number)
+
+-- whoever is at d afterwards has the number of who was there
+was_numbered : (callers : List Caller) (c d : ℕ) (me x y : Caller) → slice_get callers c ≡ Some me → number_by x ≡ number_by me → slice_get (set callers c x) d ≡ Some y
+    → (z : Caller) × (slice_get callers d ≡ Some z) × (number_by z ≡ number_by y)
+was_numbered callers c d me x y at same there =
+    elim (get_set callers c d x y there) [
+      | inl here ↦ (me, ap (slice_get callers) here.0 ∙ at, sym same ∙ ap number_by here.1)
+      | inr away ↦ (y, away.1, refl)
+    ]
+
+numbers_keep : (callers : List Caller) (c : ℕ) (me x : Caller) → slice_get callers c ≡ Some me → number_by x ≡ number_by me → NumbersDiffer callers → NumbersDiffer (set callers c x)
+numbers_keep callers c me x at same differ d e p y z here there first second =
+    let one = was_numbered callers c d me x y at same here in
+    let two = was_numbered callers c e me x z at same there in
+    differ d e p one.0 two.0 one.1 two.1 (one.2 ∙ first) (two.2 ∙ second)
+
 -- ---- a step
 
 -- Caller c, which was `me`, becomes x. It wrote this word, if it wrote one, and made this entry, if it made one.
@@ -64,7 +102,7 @@ pub record Step (g : GeometryData) (s : Scene) (c : ℕ) (me x : Caller) (n : Op
   pub made : IsMade g x
   pub writes : Writes g s.words n after
   pub apart : (m : ℕ) → holds m me ≡ false → IsApart g m n
-  pub idle : is_idle n ≡ false
+  pub duty : MindsDuty g me x n after
   pub entry : IfSome o (IsEntryOf g s c me x)
   pub tables : AreTables g after (set s.callers c x) (map_next s o)
   pub opened : open_by x ≡ opened_with o (open_by me)
@@ -170,6 +208,11 @@ module _ {g : GeometryData} {s : Scene} {c : ℕ} {me x : Caller} {n : Option Wo
       (λ e fits. alone_other g.setup m d (call_of y) s.history e (step.stands.alone d m y there has)
       (elim (cases_Bool (is_on_block g.setup m e)) [ inl on ↦ absurd (let both : true ≡ false = sym (fits.block m on) ∙ not_mine d m y apart there has in cc) | inr off ↦ off ]))
 
+  others_on : (d : ℕ) (y : Caller) → d ≢ c → slice_get s.callers d ≡ Some y → (p : ℕ) → number_by y ≡ Some p → slice_index after (place_of g (Duty p)) ≡ duty_by y
+  others_on d y apart there p is =
+      step.writes.beside (Duty p) (number_low g y p (made_at_place g s d y step.stands there) is) (λ same. apart (step.stands.numbers d c p y me there step.at is (step.duty.own p same)))
+      ∙ step.stands.duties d p y there is
+
   pub step_keeps : HoldsIn g (scene_after s c x after (list_of o))
   step_keeps =
       let h = s.history in
@@ -201,13 +244,15 @@ module _ {g : GeometryData} {s : Scene} {c : ℕ} {me x : Caller} {n : Option Wo
             (λ d y apart there asked answered. counted_grown g s c d k me x u given o step.entry (inl apart) (stands.counted d k y u given there asked answered))
             d y there;
         history = history_keeps s.first s.callers h c (call_of me) me x (list_of o) step.at stands.history added.0 step.own added.1;
-        idle = idle_left step.writes step.idle stands.idle;
+        duties = λ d p y there. each_set (λ (d : ℕ) (y : Caller). (p : ℕ) → number_by y ≡ Some p → slice_index after (place_of g (Duty p)) ≡ duty_by y) s.callers c x step.duty.word others_on d y there p;
+        numbers = numbers_keep s.callers c me x step.at step.duty.number stands.numbers;
+        lines = lines_left step.writes step.duty.line stands.lines;
       }
 
 -- ---- a step without an entry that writes neither a generation nor an L1 word
 
 -- a caller at which the words are whole before and after it
-tables_whole : {g : GeometryData} {s : Scene} (c : ℕ) {me : Caller} (x : Caller) {n : Option WordName} {after : List ℕ} → HoldsIn g s → slice_get s.callers c ≡ Some me → Writes g s.words n after → is_level1 n ≡ false
+pub tables_whole : {g : GeometryData} {s : Scene} (c : ℕ) {me : Caller} (x : Caller) {n : Option WordName} {after : List ℕ} → HoldsIn g s → slice_get s.callers c ≡ Some me → Writes g s.words n after → is_level1 n ≡ false
     → (holder_by me).step ≡ Whole → (holder_by x).step ≡ Whole → AreTables g after (set s.callers c x) (map_in s)
 tables_whole {g = g} {s = s} c {me = me} x stands at writes unlike before whole =
     let there : slice_get (map holder_by s.callers) c ≡ Some (holder_by me) = slice_get-map holder_by s.callers c ∙ ap (option_map holder_by) at in
@@ -228,7 +273,7 @@ pub record Aside (g : GeometryData) (s : Scene) (c : ℕ) (me x : Caller) (n : O
   pub writes : Writes g s.words n after
   pub no_level1 : is_level1 n ≡ false
   pub no_generation : is_generation n ≡ false
-  pub idle : is_idle n ≡ false
+  pub duty : MindsDuty g me x n after
   pub before : (holder_by me).step ≡ Whole
   pub whole : (holder_by x).step ≡ Whole
   pub opened : open_by x ≡ open_by me
@@ -247,7 +292,7 @@ aside_keeps {g = g} {s = s} {c = c} {x = x} {n = n} aside =
       made = aside.made;
       writes = aside.writes;
       apart = λ m free. plain_apart g m n aside.no_generation;
-      idle = aside.idle;
+      duty = aside.duty;
       entry = tt;
       tables = tables_whole c x aside.stands aside.at aside.writes aside.no_level1 aside.before aside.whole;
       opened = aside.opened;

@@ -62,7 +62,7 @@ agent_again a (Some t) old waited again = (waits_so a t a.stage old again).after
 
 caller_again : (x : Caller) (old : ℕ) → caller_waits x ≡ true → caller_waits (caller_took x old) ≡ true → caller_took x old ≡ x
 caller_again (caller.Agent a) old waited again = ap caller.Agent (agent_again a (task_of a) old waited again)
-caller_again (caller.Cpu looks) old waited again = refl
+caller_again (caller.Cpu q) old waited again = absurd cc
 
 -- ---- the words after it
 
@@ -81,7 +81,7 @@ agent_words a (Some u) t words under_way next waited =
 
 caller_words : (x : Caller) (t : Act) (words : List ℕ) → caller_next x ≡ Some t → caller_waits (caller_took x (answer_of t words)) ≡ true → after_act t words ≡ words
 caller_words (caller.Agent a) t words next waited = agent_words a (task_of a) t words refl next waited
-caller_words (caller.Cpu looks) t words next waited = absurd cc
+caller_words (caller.Cpu q) t words next waited = absurd cc
 
 -- ---- one turn
 

@@ -52,7 +52,7 @@ run_within g x run words made next size some =
 
 called : (g : GeometryData) (x : Caller) → IsMade g x → IsCallerOf g x
 called g (caller.Agent a) made = (made.0, made.1)
-called g (caller.Cpu looks) made = tt
+called g (caller.Cpu q) made = (made.0, made.1)
 
 pub run_fits : (m : MachineData) (c : ℕ) (x : Caller) (run : StoreRun) → HasInvariant m → c < length m.callers → x ≡ get_or m.callers c x → AreNext run x → 0 < run.count
     → run.first + run.count ≤ length m.words

@@ -7,15 +7,14 @@ use Rattle.std.specs.Int.Bits.{bit_and}
 use Rattle.std.specs.List.{All, count_by, filter}
 use Rattle.std.proofs.Math.Pow.{pow-lt}
 use Rattle.std.proofs.lemmas.Bool.{cases_Bool, cases_eq, cases_order, eq-eqb, ne_eqb}
-use Rattle.std.proofs.lemmas.List.{map-append}
+use Rattle.std.proofs.lemmas.List.{map-append, set-get_or, get_or-set_other, get_or-set_same}
 use Rattle.std.proofs.lemmas.List.Elements.{filter-append, All-nil, All-cons, All-append}
 use Rattle.std.proofs.lemmas.List.Sums.{sum_by-append}
-use Rattle.core_machine.proofs.Names.{GeometryData, place_of, WordName, IsWordName, Act, answer_of, after_act, place_in, lock_bit, take_act, release_act, Scenario, Script, AgentData, IsStage, fresh, Caller, TraceEvent, CallEvent, HoldsIn, MachineData, InvariantFor, after_turn, after_turns, scene_of, trace_of, IsMade, caller_next, caller_took, holds, caller_of, opening_of, played, first_map, geometry_of, task_of_ask, turns_in, Scene, is_inside}
+use Rattle.core_machine.proofs.Names.{GeometryData, Duty, place_of, WordName, IsWordName, Act, answer_of, after_act, place_in, lock_bit, take_act, release_act, Scenario, Script, AgentData, IsStage, fresh, Caller, TraceEvent, CallEvent, HoldsIn, MachineData, InvariantFor, after_turn, after_turns, scene_of, trace_of, IsMade, caller_next, caller_took, holds, callers_from, next_number, opening_of, played, first_map, geometry_of, task_of_ask, task_of_look, turns_in, Scene, is_inside}
 use Rattle.core_machine.proofs.Names.act
 use Rattle.core_machine.proofs.Names.script
 use Rattle.core_machine.proofs.Names.caller
 use Rattle.bit_locks.specs.Locks.{bit_with}
-use Rattle.delegate_ops.specs.InnerAgents.{took_of}
 use Rattle.delegate_ops.proofs.ScriptLemmas.{fresh_walked, step_walks}
 use Rattle.core_machine.proofs.ListLemmas.{one, count_cons, get_set, get_set_other}
 use Rattle.shared_words.specs.Acts.{written}
@@ -25,12 +24,17 @@ use Rattle.core_machine.proofs.LawLemmas.{agent_acting, one_act, act_word}
 use Rattle.core_machine.proofs.MachineLemmas.{Along, Always, act_has, along}
 use Rattle.core_machine.proofs.LockLemmas.{holder_bit, take_free, take_held, release_held}
 use Rattle.core_machine.proofs.ActLemmas.{lock_of_task, low_of}
-use Rattle.core_machine.specs.Trace.{AreAnswered, TakesTurns, events_of, words_after, releases, releases_by, takes, takes_by}
+use Rattle.core_machine.specs.Trace.{AreAnswered, TakesTurns, events_of, words_after, releases, releases_by, takes, takes_by, clears, clears_by, sets, sets_by}
 use Rattle.delegate_ops.specs.InnerScript.{HasWalked}
 use Rattle.core_machine.specs.InnerMachine.{HasInvariant, after_act_of, after_turn_of, event_of, turn_event_of}
-use Rattle.core_machine.specs.InnerCallers.{made_by}
+use Rattle.core_machine.specs.InnerCallers.{MayTake, made_by}
+use Rattle.processor.specs.InnerCpus as cpu
+use Rattle.processor.specs.InnerScript as cpus
+use Rattle.processor.proofs.ScriptLemmas.{fresh_walked as cpu_fresh_walked, step_walks as cpu_step_walks}
+use Rattle.gpt_descriptors.proofs.PlaceLemmas.{place_distinct}
+use Rattle.core_machine.proofs.CpuActs.{cpu_accessing, duty_below, duty_is, how_acts}
 use Rattle.core_machine.specs.InnerPlay.{played_trace}
-use Rattle.core_machine.proofs.WordLemmas.{is_lock, locks_left, writes_one}
+use Rattle.core_machine.proofs.WordLemmas.{is_idle, is_lock, locks_left, writes_one}
 use Rattle.core_machine.proofs.CallerLemmas.{agent_has, made_at_place}
 
 -- ---- each caller's events
@@ -40,46 +44,49 @@ of_append c xs ys =
     ap (map (λ (e : TraceEvent). e.event)) (filter-append (λ e. eqb e.caller c) xs ys)
     ∙ map-append (λ (e : TraceEvent). e.event) (filter (λ e. eqb e.caller c) xs) (filter (λ e. eqb e.caller c) ys)
 
--- caller c, an agent, goes on from another state by these events of its script
-abbrev GoesOn : ℕ → AgentData → AgentData → List CallEvent → Type 0
-GoesOn c a b events = (before : List CallEvent) → HasWalked c a before → HasWalked c b (before ++ events)
+-- caller c has come to this state by these events of its script
+abbrev pub HasCome : ℕ → Caller → List CallEvent → Type 0
+HasCome c (caller.Agent a) events = HasWalked c a events
+HasCome c (caller.Cpu q) events = cpus.HasWalked c q events
 
--- where the agent at c comes from
-pub record Comes (m : MachineData) (c : ℕ) (b : AgentData) (events : List CallEvent) : Type 0 where
-  pub from : AgentData
-  pub at : slice_get m.callers c ≡ Some (caller.Agent from)
-  pub goes : GoesOn c from b events
+-- it goes on from another state by these events
+abbrev GoesOn : ℕ → Caller → Caller → List CallEvent → Type 0
+GoesOn c x y events = (before : List CallEvent) → HasCome c x before → HasCome c y (before ++ events)
 
-stays_at : (m : MachineData) (c : ℕ) (b : AgentData) → slice_get m.callers c ≡ Some (caller.Agent b) → Comes m c b []
-stays_at m c b at = record { from = b; at = at; goes = λ before walked. subst (HasWalked c b) (sym (append-nil before)) walked }
+-- where the caller at c comes from
+pub record Comes (m : MachineData) (c : ℕ) (y : Caller) (events : List CallEvent) : Type 0 where
+  pub from : Caller
+  pub at : slice_get m.callers c ≡ Some from
+  pub goes : GoesOn c from y events
+
+stays_at : (m : MachineData) (c : ℕ) (y : Caller) → slice_get m.callers c ≡ Some y → Comes m c y []
+stays_at m c y at = record { from = y; at = at; goes = λ before come. subst (HasCome c y) (sym (append-nil before)) come }
 
 -- the event of an act
 abbrev made_event : MachineData → ℕ → Caller → Act → CallEvent
 made_event m c x t = record { act = t; old = answer_of t m.words; made = made_by c x (answer_of t m.words) }
 
--- the agent that made its act
-steps_from : (m : MachineData) (c : ℕ) (x : Caller) (t : Act) (b : AgentData) → slice_get m.callers c ≡ Some x → caller_next x ≡ Some t → IsMade m.geometry x → caller_took x (answer_of t m.words) ≡ caller.Agent b
-    → Comes m c b (made_event m c x t ∷ [])
-steps_from m c (caller.Agent a) t b at next made took =
-    let same : took_of a (answer_of t m.words) ≡ b = cc in
-    record {
-      from = a;
-      at = at;
-      goes = λ before walked. subst (λ (y : AgentData). HasWalked c y (before ++ made_event m c (caller.Agent a) t ∷ [])) same (step_walks c a before t (answer_of t m.words) made.1 walked next);
-    }
-steps_from m c (caller.Cpu looks) t b at next made took = absurd cc
+-- a caller that makes its act
+steps_on : (g : GeometryData) (c : ℕ) (x : Caller) (t : Act) (old : ℕ) → IsMade g x → MayTake x old → caller_next x ≡ Some t → GoesOn c x (caller_took x old) (record { act = t; old = old; made = made_by c x old } ∷ [])
+steps_on g c (caller.Agent a) t old made may next before come = step_walks c a before t old made.1 come next
+steps_on g c (caller.Cpu q) t old made may next before come = cpu_step_walks c q before t old made.1 come may next
 
 abbrev AllCome : ℕ → MachineData → List TraceEvent → MachineData → Type 0
-AllCome c m xs n = (b : AgentData) → slice_get n.callers c ≡ Some (caller.Agent b) → Comes m c b (events_of c xs)
+AllCome c m xs n = (y : Caller) → slice_get n.callers c ≡ Some y → Comes m c y (events_of c xs)
 
 act_comes : (m : MachineData) (c d : ℕ) (x : Caller) (t : Act) → HasInvariant m → slice_get m.callers d ≡ Some x → caller_next x ≡ Some t → AllCome c m (event_of m d x (Some t)) (after_act_of m d x (Some t))
-act_comes m c d x t has at next b there =
-    elim (get_set m.callers d c (caller_took x (answer_of t m.words)) (caller.Agent b) there) [
+act_comes m c d x t has at next y there =
+    let old = answer_of t m.words in
+    let scene = scene_of has.0 m has.1 in
+    let made = made_at_place m.geometry scene d x has.2 at in
+    let may = (one_act m.geometry scene d x t has.2 at next).1 in
+    elim (get_set m.callers d c (caller_took x old) y there) [
       | inl here ↦
           rw (eq-eqb d c (sym here.0))
-          (subst (λ (k : ℕ). Comes m c b (made_event m k x t ∷ [])) here.0
-          (steps_from m c x t b (subst (λ (n : ℕ). slice_get m.callers n ≡ Some x) (sym here.0) at) next (made_at_place m.geometry (scene_of has.0 m has.1) d x has.2 at) here.1))
-      | inr away ↦ rw (ne_eqb d c (λ same. away.0 (sym same))) (stays_at m c b away.1)
+          (subst (λ (k : ℕ). Comes m c y (made_event m k x t ∷ [])) here.0
+          (subst (λ (z : Caller). Comes m c z (made_event m c x t ∷ [])) here.1
+          (record { from = x; at = subst (λ (n : ℕ). slice_get m.callers n ≡ Some x) (sym here.0) at; goes = steps_on m.geometry c x t old made may next })))
+      | inr away ↦ rw (ne_eqb d c (λ same. away.0 (sym same))) (stays_at m c y away.1)
     ]
 
 come_along : (c : ℕ) → Along HasInvariant (AllCome c)
@@ -92,24 +99,26 @@ come_along c = record {
         from = first.from;
         at = first.at;
         goes = λ before walked.
-            subst (HasWalked c b) (append_assoc before (events_of c xs) (events_of c ys) ∙ ap (λ (es : List CallEvent). before ++ es) (sym (of_append c xs ys))) (last.goes (before ++ events_of c xs) (first.goes before walked));
+            subst (HasCome c b) (append_assoc before (events_of c xs) (events_of c ys) ∙ ap (λ (es : List CallEvent). before ++ es) (sym (of_append c xs ys))) (last.goes (before ++ events_of c xs) (first.goes before walked));
       };
   act = λ m d x t has at next. act_comes m c d x t has at next;
   keeps = λ m d x t has at next. act_has m d x t has at next;
 }
 
--- an agent of the opening has no events yet
-opening_agent : (g : GeometryData) (scripts : List Script) (c d : ℕ) (a : AgentData) → slice_get (map (caller_of g) scripts) c ≡ Some (caller.Agent a) → HasWalked d a []
-opening_agent g [] c d a at = absurd cc
-opening_agent g (script.Agent asks ∷ scripts) zero d a at = let same : fresh g (map task_of_ask asks) ≡ a = cc in subst (λ (b : AgentData). HasWalked d b []) same (fresh_walked g (map task_of_ask asks) d)
-opening_agent g (script.Cpu looks ∷ scripts) zero d a at = absurd cc
-opening_agent g (s ∷ scripts) (suc c) d a at = opening_agent g scripts c d a at
+-- a caller of the opening has no events yet
+opening_come : (g : GeometryData) (p : ℕ) (scripts : List Script) (c d : ℕ) (x : Caller) → slice_get (callers_from g p scripts) c ≡ Some x → HasCome d x []
+opening_come g p [] c d x at = absurd cc
+opening_come g p (script.Agent asks ∷ scripts) zero d x at =
+    let same : caller.Agent (fresh g (map task_of_ask asks)) ≡ x = cc in subst (λ (y : Caller). HasCome d y []) same (fresh_walked g (map task_of_ask asks) d)
+opening_come g p (script.Cpu looks ∷ scripts) zero d x at =
+    let same : caller.Cpu (cpu.fresh g p (map task_of_look looks)) ≡ x = cc in subst (λ (y : Caller). HasCome d y []) same (cpu_fresh_walked g p (map task_of_look looks) d)
+opening_come g p (s ∷ scripts) (suc c) d x at = opening_come g (next_number p s) scripts c d x at
 
-pub played_walked : (s : Scenario) (c : ℕ) (a : AgentData) → InvariantFor (first_map s) (opening_of s) [] → slice_get (played s).callers c ≡ Some (caller.Agent a)
-    → HasWalked c a (events_of c (played_trace s))
-played_walked s c a stands there =
-    let comes = along HasInvariant (AllCome c) (come_along c) (opening_of s) (turns_in s) (first_map s, [], stands) a there in
-    comes.goes [] (opening_agent (geometry_of s) s.scripts c c comes.from comes.at)
+pub played_walked : (s : Scenario) (c : ℕ) (x : Caller) → InvariantFor (first_map s) (opening_of s) [] → slice_get (played s).callers c ≡ Some x
+    → HasCome c x (events_of c (played_trace s))
+played_walked s c x stands there =
+    let comes = along HasInvariant (AllCome c) (come_along c) (opening_of s) (turns_in s) (first_map s, [], stands) x there in
+    comes.goes [] (opening_come (geometry_of s) 0 s.scripts c c comes.from comes.at)
 
 -- ---- words
 
@@ -284,7 +293,16 @@ plain_counts g words n next m named unlike at low =
     by_kind (act.And place value) apart same = rw (ne_eqb place (m / 64) apart) (ap (λ (k : ℕ). k + 0) same)
 
 caller_counts : (g : GeometryData) (s : Scene) (c : ℕ) (x : Caller) (t : Act) (m : ℕ) → HoldsIn g s → slice_get s.callers c ≡ Some x → caller_next x ≡ Some t → m < 128 → CountsLock s.words t m
-caller_counts g s c (caller.Cpu looks) t m stands at next low = absurd cc
+caller_counts g s c (caller.Cpu q) t m stands at next low =
+    let way = cpu_accessing g s c q t stands at next in
+    let stores = λ (v : ℕ). plain_counts q.geometry s.words (Duty q.number) (act.Store (place_of q.geometry (Duty q.number)) v) m way.acting.is.number refl refl low in
+    elim (how_acts q.geometry q.number way.pa q.stage t way.acts) [
+      | inl load ↦ subst (λ (x : Act). CountsLock s.words x m) (sym load) (ap (λ (words : List ℕ). lock_bit words m + 0) (set-get_or s.words (place_in t) 0))
+      | inr store ↦ elim store [
+        | inl on ↦ subst (λ (x : Act). CountsLock s.words x m) (sym on.0) (stores 1)
+        | inr off ↦ subst (λ (x : Act). CountsLock s.words x m) (sym off.0) (stores 0)
+      ]
+    ]
 caller_counts g s c (caller.Agent a) t m stands at next low =
     let way = agent_acting g s c a t stands at next in
     let acting = way.2 in
@@ -302,9 +320,64 @@ caller_counts g s c (caller.Agent a) t m stands at next low =
       ]
     ]
 
--- the locks taken and released by a trace make the lock bits
-abbrev CountsTrace : ℕ → List ℕ → List ℕ → List TraceEvent → Type 0
-CountsTrace n before after trace = lock_bit after n + count_by (releases n) trace ≡ lock_bit before n + count_by (takes n) trace
+-- ---- duty words
+
+abbrev duty_word : GeometryData → ℕ → List ℕ → ℕ
+duty_word g p words = slice_index words (place_of g (Duty p))
+
+-- what an act does to the duty word of processor p
+abbrev CountsDuty : GeometryData → ℕ → List ℕ → Act → Type 0
+CountsDuty g p words t = duty_word g p (after_act t words) + one (clears_by g p t) ≡ duty_word g p words + one (sets_by g p t)
+
+neither : (g : GeometryData) (p : ℕ) (t : Act) → place_in t ≢ place_of g (Duty p) → (sets_by g p t ≡ false) × (clears_by g p t ≡ false)
+neither g p (act.Store place value) apart = (rw (ne_eqb place (place_of g (Duty p)) apart) refl, rw (ne_eqb place (place_of g (Duty p)) apart) refl)
+neither g p t apart = (refl, refl)
+
+-- an act on another word
+other_duty : (g : GeometryData) (words : List ℕ) (n : WordName) (p : ℕ) (t : Act) → IsWordName g n → p < g.cpus → n ≢ Duty p → place_in t ≡ place_of g n → CountsDuty g p words t
+other_duty g words n p t named low apart at =
+    let away : place_in t ≢ place_of g (Duty p) = λ same. apart (place_distinct g n (Duty p) named low (sym at ∙ same)) in
+    let none = neither g p t away in
+    rw (none.0, none.1) (ap (λ (word : ℕ). word + 0) (get_or-set_other words (place_in t) (place_of g (Duty p)) _ 0 (λ same. away (sym same))))
+
+-- a store on the own one, that sets what is clear or clears what is set
+store_duty : (g : GeometryData) (words : List ℕ) (r p v : ℕ) → r < g.cpus → p < g.cpus → place_of g (Duty r) < length words → v + one (eqb v 0) ≡ duty_word g r words + one (eqb v 1)
+    → CountsDuty g p words (act.Store (place_of g (Duty r)) v)
+store_duty g words r p v own low within turns =
+    elim (cases_eq r p) [
+      | inr apart ↦ other_duty g words (Duty r) p (act.Store (place_of g (Duty r)) v) own low (λ same. apart cc) refl
+      | inl same ↦
+          subst (λ (n : ℕ). CountsDuty g n words (act.Store (place_of g (Duty r)) v)) same
+          (rw (eq-eqb (place_of g (Duty r)) (place_of g (Duty r)) refl, get_or-set_same words (place_of g (Duty r)) v 0 within) turns)
+    ]
+
+duty_counts : (g : GeometryData) (s : Scene) (c : ℕ) (x : Caller) (t : Act) (p : ℕ) → HoldsIn g s → slice_get s.callers c ≡ Some x → caller_next x ≡ Some t → p < g.cpus → CountsDuty g p s.words t
+duty_counts g s c (caller.Agent a) t p stands at next low =
+    let way = agent_acting g s c a t stands at next in
+    let acting = way.2 in
+    let on = act_word a.geometry way.1 a.stage t acting.stands.shape.geometry acting.acts (subst (IsStage a.geometry a.stage) acting.under_way acting.is.stage) way.3 in
+    subst (λ (k : GeometryData). CountsDuty k p s.words t) way.0
+    (other_duty a.geometry s.words on.name p t on.named (subst (λ (k : GeometryData). p < k.cpus) (sym way.0) low)
+    (λ same. let both : true ≡ false = ap (λ (n : WordName). is_idle (Some n)) (sym same) ∙ on.idle in cc) on.place)
+duty_counts g s c (caller.Cpu q) t p stands at next low =
+    let way = cpu_accessing g s c q t stands at next in
+    let acting = way.acting in
+    let stores = λ (v : ℕ) (turns : v + one (eqb v 0) ≡ duty_word q.geometry q.number s.words + one (eqb v 1)).
+    store_duty q.geometry s.words q.number p v acting.is.number (subst (λ (k : GeometryData). p < k.cpus) (sym way.geometry) low) (duty_below acting) turns in
+    subst (λ (k : GeometryData). CountsDuty k p s.words t) way.geometry
+    (elim (how_acts q.geometry q.number way.pa q.stage t way.acts) [
+      | inl load ↦ subst (λ (x : Act). CountsDuty q.geometry p s.words x) (sym load) (ap (λ (words : List ℕ). duty_word q.geometry p words + 0) (set-get_or s.words (place_in t) 0))
+      | inr store ↦ elim store [
+        | inl on ↦ subst (λ (x : Act). CountsDuty q.geometry p s.words x) (sym on.0) (stores 1 (omega (arith, duty_is acting, on.1)))
+        | inr off ↦ subst (λ (x : Act). CountsDuty q.geometry p s.words x) (sym off.0) (stores 0 (omega (arith, duty_is acting, off.1)))
+      ]
+    ])
+
+-- ---- what a trace adds and takes away
+
+-- what is read of the words after a trace is what was before it, with what its events add and without what they take
+abbrev CountsTrace : (List ℕ → ℕ) → (TraceEvent → Bool) → (TraceEvent → Bool) → List ℕ → List ℕ → List TraceEvent → Type 0
+CountsTrace value takes adds before after trace = value after + count_by takes trace ≡ value before + count_by adds trace
 
 count_one : (p : TraceEvent → Bool) (e : TraceEvent) → count_by p (e ∷ []) ≡ one (p e)
 count_one p e = omega (arith, count_cons p [] e)
@@ -312,16 +385,35 @@ count_one p e = omega (arith, count_cons p [] e)
 count_joined : (p : TraceEvent → Bool) (xs ys : List TraceEvent) → count_by p (xs ++ ys) ≡ count_by p xs + count_by p ys
 count_joined p xs ys = sum_by-append (λ x. one (p x)) xs ys
 
-counts_along : (n : ℕ) → n < 128 → Along HasInvariant (λ (m : MachineData) (xs : List TraceEvent) (p : MachineData). CountsTrace n m.words p.words xs)
-counts_along n low = record {
+-- where each act does so
+abbrev CountsActs : (List ℕ → ℕ) → (TraceEvent → Bool) → (TraceEvent → Bool) → GeometryData → Type 0
+CountsActs value takes adds g =
+    (m : MachineData) (c : ℕ) (a : Caller) (t : Act) → HasInvariant m → m.geometry ≡ g → slice_get m.callers c ≡ Some a → caller_next a ≡ Some t
+    → value (after_act t m.words) + one (takes (record { caller = c; event = made_event m c a t })) ≡ value m.words + one (adds (record { caller = c; event = made_event m c a t }))
+
+counts_along : (value : List ℕ → ℕ) (takes adds : TraceEvent → Bool) (g : GeometryData) → CountsActs value takes adds g
+    → Along (λ (m : MachineData). HasInvariant m × (m.geometry ≡ g)) (λ (m : MachineData) (xs : List TraceEvent) (p : MachineData). CountsTrace value takes adds m.words p.words xs)
+counts_along value takes adds g each = record {
   none = λ m. refl;
-  more = λ m q p xs ys now later. omega (arith, now, later, count_joined (takes n) xs ys, count_joined (releases n) xs ys);
+  more = λ m q p xs ys now later. omega (arith, now, later, count_joined takes xs ys, count_joined adds xs ys);
   act = λ m c a t has at next.
-      let counts = caller_counts m.geometry (scene_of has.0 m has.1) c a t n has.2 at next low in
       let e : TraceEvent = record { caller = c; event = made_event m c a t } in
-      omega (arith, counts, count_one (releases n) e, count_one (takes n) e);
-  keeps = λ m c a t has at next. act_has m c a t has at next;
+      omega (arith, each m c a t has.0 has.1 at next, count_one takes e, count_one adds e);
+  keeps = λ m c a t has at next. (act_has m c a t has.0 at next, has.1);
 }
 
-pub trace_counts : (n : ℕ) (m : MachineData) (turns : List ℕ) → n < 128 → HasInvariant m → CountsTrace n m.words (after_turns m turns).words (trace_of m turns)
-trace_counts n m turns low has = along HasInvariant _ (counts_along n low) m turns has
+-- the locks taken and released by a trace make the lock bits
+pub trace_counts : (n : ℕ) (m : MachineData) (turns : List ℕ) → n < 128 → HasInvariant m
+    → CountsTrace (λ (words : List ℕ). lock_bit words n) (releases n) (takes n) m.words (after_turns m turns).words (trace_of m turns)
+trace_counts n m turns low has =
+    along _ _ (counts_along (λ (words : List ℕ). lock_bit words n) (releases n) (takes n) m.geometry
+    (λ k c a t has_it same at next. caller_counts k.geometry (scene_of has_it.0 k has_it.1) c a t n has_it.2 at next low)) m turns (has, refl)
+
+-- the duty words set and cleared by a trace make the duty words
+pub trace_duty : (p : ℕ) (m : MachineData) (turns : List ℕ) → p < m.geometry.cpus → HasInvariant m
+    → CountsTrace (duty_word m.geometry p) (clears m.geometry p) (sets m.geometry p) m.words (after_turns m turns).words (trace_of m turns)
+trace_duty p m turns low has =
+    along _ _ (counts_along (duty_word m.geometry p) (clears m.geometry p) (sets m.geometry p) m.geometry
+    (λ k c a t has_it same at next.
+    subst (λ (g : GeometryData). CountsDuty g p k.words t) same
+    (duty_counts k.geometry (scene_of has_it.0 k has_it.1) c a t p has_it.2 at next (subst (λ (g : GeometryData). p < g.cpus) (sym same) low)))) m turns (has, refl)

@@ -1,5 +1,5 @@
 -- A turn of a machine by that of its caller, whether or not it has a next act.
-use Rattle.std.proofs.Common.{◌≡◌, ℕ, ◌<◌, List, Option, Some, None, length, get_or, set, refl, sym, ap, ◌∙◌, subst}
+use Rattle.std.proofs.Common.{◌≡◌, ℕ, ◌<◌, true, List, Option, Some, None, length, get_or, set, refl, sym, ap, ◌∙◌, subst}
 use Rattle.std.specs.Prelude.{is_some, not}
 use Rattle.std.proofs.lemmas.List.{set-get_or}
 use Rattle.std.proofs.lemmas.List.Elements.{All-get_or}
@@ -14,6 +14,10 @@ use Rattle.delegate_ops.specs.InnerAgents.{AgentData, task_of, next_of, has_ende
 use Rattle.delegate_ops.specs.InnerStages.{Stage}
 use Rattle.delegate_ops.specs.InnerStages as stage
 use Rattle.delegate_ops.proofs.NextLemmas.{next_there}
+use Rattle.processor.specs.InnerCpus.{CpuData, IsCpu}
+use Rattle.processor.specs.InnerCpus as cpus
+use Rattle.processor.specs.InnerProgress as progress
+use Rattle.processor.proofs.CpuLemmas.{next_there as cpu_next_there}
 use Rattle.core_machine.specs.declared.caller.Caller.{Caller}
 use Rattle.core_machine.specs.declared.caller.Caller.TheVariants as caller
 use Rattle.core_machine.specs.InnerCallers.{caller_next, caller_took, caller_waits, MayTake, IsMade}
@@ -30,16 +34,26 @@ ended_of : (a : AgentData) → IsAgent a → next_of a ≡ None → task_of a �
 ended_of a is none =
     no_task a (task_of a) refl (next_there a is) none
 
+no_access : (o : Option Task) (next : Option Act) → is_some next ≡ not (not (is_some o)) → next ≡ None → o ≡ None
+no_access None next there none = refl
+no_access (Some t) next there none = absurd (let both : is_some {T = Act} None ≡ true = ap (λ (n : Option Act). is_some n) (sym none) ∙ there in cc)
+
+-- nor has a processor an access
+cpu_ended_of : (q : CpuData) → IsCpu q → cpus.next_of q ≡ None → cpus.task_of q ≡ None
+cpu_ended_of q is none = no_access (cpus.task_of q) (cpus.next_of q) (cpu_next_there q is) none
+
 -- a caller without a next act stays as it is
 stays_ended : (g : GeometryData) (x : Caller) (old : ℕ) → IsMade g x → caller_next x ≡ None → caller_took x old ≡ x
 stays_ended g (caller.Agent a) old made none = ap (λ (o : Option Task). caller.Agent (took_under_way a o old)) (ended_of a made.1 none)
-stays_ended g (caller.Cpu looks) old made none = refl
+stays_ended g (caller.Cpu q) old made none = ap (λ (o : Option Task). caller.Cpu (cpus.took_at q o old)) (cpu_ended_of q made.1 none)
 
 may_rest : (g : GeometryData) (x : Caller) → IsMade g x → caller_next x ≡ None → MayTake x 0
 may_rest g (caller.Agent a) made none =
     let locking : a.stage ≡ stage.Locking = subst (IsStage a.geometry a.stage) (ended_of a made.1 none) made.1.stage in
     subst (λ (s : Stage). IsReadable s 0) (sym locking) tt
-may_rest g (caller.Cpu looks) made none = tt
+may_rest g (caller.Cpu q) made none =
+    let starting : q.stage ≡ progress.Starting = subst (λ (o : Option Task). cpus.IsAt o q.stage) (cpu_ended_of q made.1 none) made.1.stage in
+    subst (λ (s : progress.Stage). cpus.IsReadable s 0) (sym starting) tt
 
 made_at : (first : List Gpi) (h : List Entry) (m : MachineData) (c : ℕ) (a : Caller) → InvariantFor first m h → c < length m.callers → a ≡ get_or m.callers c a → IsMade m.geometry a
 made_at first h m c a holds within here = subst (IsMade m.geometry) (sym here) (All-get_or (IsMade m.geometry) m.callers c a within holds.shape.made)

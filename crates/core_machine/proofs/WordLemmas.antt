@@ -4,10 +4,8 @@ use Rattle.std.proofs.Common.{◌≡◌, ◌≢◌, ℕ, ◌*◌, ◌/◌, ◌%�
 use Rattle.std.specs.Prelude.{slice_index}
 use Rattle.std.specs.Int.{bit_at}
 use Rattle.std.proofs.lemmas.List.{length-set, get_or-set_other}
-use Rattle.core_machine.proofs.Names.{Gpi, Size, size_bytes, space_bytes, GeometryData, IsGeometry, WordName, IsWordName, Lock, Generation, Level1, place_of, gen_place_of, blocks_in_region, lock_number, lock_bit, AreWords, generation_word}
-use Rattle.gpt_descriptors.specs.Places.{Duty, Line}
+use Rattle.core_machine.proofs.Names.{Gpi, Size, size_bytes, space_bytes, GeometryData, IsGeometry, WordName, IsWordName, Lock, Generation, Duty, Level1, Line, NoLines, place_of, gen_place_of, blocks_in_region, lock_number, lock_bit, AreWords, generation_word}
 use Rattle.gpt_descriptors.proofs.PlaceLemmas.{place_distinct, generation_named}
-use Rattle.core_machine.specs.InnerInvariant.{AreIdle}
 use Rattle.core_machine.proofs.AddressLemmas.{index_below, lock_by_region, lock_of}
 
 -- ---- the word that is written
@@ -41,11 +39,23 @@ abbrev pub is_level1 : Option WordName → Bool
 is_level1 (Some (Level1 i)) = true
 is_level1 n = false
 
--- duty words and lines, which no act writes yet
+-- lines, which no act writes yet
+abbrev pub is_line : Option WordName → Bool
+is_line (Some (Line i)) = true
+is_line n = false
+
+-- duty words and lines, which no agent writes
 abbrev pub is_idle : Option WordName → Bool
 is_idle (Some (Duty cpu)) = true
 is_idle (Some (Line i)) = true
 is_idle n = false
+
+pub idle_line : (n : Option WordName) → is_idle n ≡ false → is_line n ≡ false
+idle_line (Some (Line i)) unlike = absurd cc
+idle_line n unlike = refl
+
+pub idle_duty : (n : Option WordName) (p : ℕ) → is_idle n ≡ false → n ≡ Some (Duty p) → ⊥
+idle_duty n p unlike same = let both : true ≡ false = ap is_idle (sym same) ∙ unlike in cc
 
 differs : (p : Option WordName → Bool) (n m : Option WordName) → p n ≡ false → p m ≡ true → n ≢ m
 differs p n m unlike is same = let both : true ≡ false = sym is ∙ ap p (sym same) ∙ unlike in cc
@@ -67,11 +77,8 @@ module _ {g : GeometryData} {words : List ℕ} {n : Option WordName} {after : Li
       → generation_word g after y region ≡ generation_word g words y region
   generations_left unlike y region within = generation_left y region within (differs is_generation n (Some (Generation y region)) unlike refl)
 
-  pub idle_left : is_idle n ≡ false → AreIdle g words → AreIdle g after
-  idle_left unlike idle = record {
-    duty = λ cpu low. writes.beside (Duty cpu) low (differs is_idle n (Some (Duty cpu)) unlike refl) ∙ idle.duty cpu low;
-    lines = λ i low. writes.beside (Line i) low (differs is_idle n (Some (Line i)) unlike refl) ∙ idle.lines i low;
-  }
+  pub lines_left : is_line n ≡ false → NoLines g words → NoLines g after
+  lines_left unlike lines = λ i low. writes.beside (Line i) low (differs is_line n (Some (Line i)) unlike refl) ∙ lines i low
 
 -- ---- lock blocks
 

@@ -119,6 +119,8 @@ pub record FitsHistory (g : GeometryData) (first : List Gpi) (tasks : List (List
   pub ended : AllAnswered tasks answers → (n : ℕ) → n < 128 → lock_bit words n ≡ 0
   pub whole : AllAnswered tasks answers
       → AreCanonical g.setup (l0_words g) (table_part g words) (map_after first h)
-  -- duty words and lines aren't used yet
-  pub duty : (cpu : ℕ) → cpu < g.cpus → slice_index words (place_of g (Duty cpu)) ≡ 0
+  -- where each call is answered no access is under way
+  pub duty : AllAnswered tasks answers → (cpu : ℕ) → cpu < g.cpus
+      → slice_index words (place_of g (Duty cpu)) ≡ 0
+  -- lines aren't used yet
   pub lines : (i : ℕ) → i < l1_words g → slice_index words (place_of g (Line i)) ≡ 0

@@ -12,7 +12,7 @@ use Rattle.delegate_ops.specs.InnerAgents.{AgentData, IsAgent, task_of, has_ende
 use Rattle.core_machine.specs.declared.caller.Caller.{Caller}
 use Rattle.core_machine.specs.declared.caller.Caller.TheVariants as caller
 use Rattle.core_machine.specs.InnerAgentCaller.{is_inside}
-use Rattle.core_machine.specs.InnerCallers.{IsCallerOf, agent_tasks, caller_next, caller_took}
+use Rattle.core_machine.specs.InnerCallers.{IsCallerOf, caller_tasks, caller_next, caller_took, number_by}
 use Rattle.core_machine.specs.InnerScene.{Scene}
 use Rattle.core_machine.specs.InnerInvariant.{HoldsIn}
 
@@ -22,11 +22,12 @@ ActsHavePlaces =
     (g : GeometryData) (c : Caller) (t : Act) → IsCallerOf g c → caller_next c ≡ Some t
     → place_in t < word_count g
 
--- an act keeps the geometry and the tasks of its caller, whatever it answers
+-- an act keeps the geometry, the tasks and the number of its caller, whatever it answers
 abbrev pub ActsKeepTheirCaller : Type 0
 ActsKeepTheirCaller =
     (g : GeometryData) (c : Caller) (old : ℕ) → IsCallerOf g c → IsCallerOf g (caller_took c old)
-    × (agent_tasks (caller_took c old) ≡ agent_tasks c)
+    × (caller_tasks (caller_took c old) ≡ caller_tasks c)
+    × (number_by (caller_took c old) ≡ number_by c)
 
 -- an agent has a next act unless each of its tasks is answered
 abbrev pub AgentsGoOn : Type 0

@@ -15,62 +15,57 @@ use Rattle.delegate_ops.specs.InnerAgents.{next_of, took_of, IsReadable}
 use Rattle.core_machine.specs.declared.caller.Caller.{Caller}
 use Rattle.core_machine.specs.declared.caller.Caller.TheVariants as caller
 use Rattle.core_machine.specs.InnerAgentCaller.{IsAgentOf, agent_made, agent_fresh, agent_left, agent_known, agent_makes, agent_own, agent_holds, agent_opens, agent_owes, agent_holder, agent_sees}
-use Rattle.core_machine.specs.InnerCpuCaller.{IsCpuOf, cpu_made, cpu_fresh, cpu_may_take, cpu_answers, cpu_next, cpu_took, cpu_known, cpu_makes, cpu_own, cpu_holds, cpu_opens, cpu_owes, cpu_holder, cpu_sees}
+use Rattle.core_machine.specs.InnerCpuCaller.{IsCpuOf, cpu_made, cpu_fresh, cpu_may_take, cpu_duty, cpu_left, cpu_next, cpu_took, cpu_known, cpu_makes, cpu_own, cpu_holds, cpu_opens, cpu_owes, cpu_holder, cpu_sees}
 
 -- ---- how a caller was made
 
 -- with this geometry
 abbrev pub IsCallerOf : GeometryData → Caller → Type 0
 IsCallerOf g (caller.Agent a) = IsAgentOf g a
-IsCallerOf g (caller.Cpu looks) = IsCpuOf g looks
+IsCallerOf g (caller.Cpu q) = IsCpuOf g q
 
 -- and it has come to where it is by some events of its script
 abbrev pub IsMade : GeometryData → Caller → Type 0
 IsMade g (caller.Agent a) = agent_made g a
-IsMade g (caller.Cpu looks) = cpu_made g looks
+IsMade g (caller.Cpu q) = cpu_made g q
 
 -- it has made no act
 abbrev pub IsFresh : GeometryData → Caller → Type 0
 IsFresh g (caller.Agent a) = agent_fresh g a
-IsFresh g (caller.Cpu looks) = cpu_fresh g looks
+IsFresh g (caller.Cpu q) = cpu_fresh g q
 
 -- ---- acts
 
 abbrev pub caller_next : Caller → Option Act
 caller_next (caller.Agent a) = next_of a
-caller_next (caller.Cpu looks) = cpu_next looks
+caller_next (caller.Cpu q) = cpu_next q
 
 abbrev pub caller_took : Caller → ℕ → Caller
 caller_took (caller.Agent a) old = caller.Agent (took_of a old)
-caller_took (caller.Cpu looks) old = caller.Cpu (cpu_took looks old)
+caller_took (caller.Cpu q) old = caller.Cpu (cpu_took q old)
 
 -- the caller can take this answer of its next act
 abbrev pub MayTake : Caller → ℕ → Type 0
 MayTake (caller.Agent a) old = IsReadable a.stage old
-MayTake (caller.Cpu looks) old = cpu_may_take looks old
+MayTake (caller.Cpu q) old = cpu_may_take q old
 
 abbrev pub caller_waits : Caller → Bool
 caller_waits (caller.Agent a) = a.waited
-caller_waits (caller.Cpu looks) = false
+caller_waits (caller.Cpu q) = false
 
 -- ---- tasks and answers
 
--- the tasks of an agent
-abbrev pub agent_tasks : Caller → Option (List Task)
-agent_tasks (caller.Agent a) = Some a.tasks
-agent_tasks (caller.Cpu looks) = None
-
 abbrev pub caller_tasks : Caller → List Task
 caller_tasks (caller.Agent a) = a.tasks
-caller_tasks (caller.Cpu looks) = []
+caller_tasks (caller.Cpu q) = q.tasks
 
 abbrev pub caller_answers : Caller → List Answer
 caller_answers (caller.Agent a) = a.answers
-caller_answers (caller.Cpu looks) = cpu_answers looks
+caller_answers (caller.Cpu q) = q.answers
 
 abbrev pub caller_left : Caller → ℕ
 caller_left (caller.Agent a) = agent_left a
-caller_left (caller.Cpu looks) = looks
+caller_left (caller.Cpu q) = cpu_left q
 
 -- the number of the call under way
 abbrev pub call_of : Caller → ℕ
@@ -79,7 +74,19 @@ call_of x = length (caller_answers x)
 -- its answers, and that of the call under way where it is known
 abbrev pub known_answers : Caller → List Answer
 known_answers (caller.Agent a) = agent_known a
-known_answers (caller.Cpu looks) = cpu_known looks
+known_answers (caller.Cpu q) = cpu_known q
+
+-- ---- processors
+
+-- the number of a processor
+abbrev pub number_by : Caller → Option ℕ
+number_by (caller.Agent a) = None
+number_by (caller.Cpu q) = Some q.number
+
+-- what its duty word is
+abbrev pub duty_by : Caller → ℕ
+duty_by (caller.Agent a) = 0
+duty_by (caller.Cpu q) = cpu_duty q
 
 -- ---- runs of stores
 
@@ -98,36 +105,36 @@ AreNext run x =
 -- the entries that the next act of caller number c makes
 abbrev pub made_by : ℕ → Caller → ℕ → List Entry
 made_by c (caller.Agent a) old = agent_makes c a old
-made_by c (caller.Cpu looks) old = cpu_makes c looks old
+made_by c (caller.Cpu q) old = cpu_makes c q old
 
 -- all entries that caller number c has made
 abbrev pub own_of : ℕ → Caller → List Entry
 own_of c (caller.Agent a) = agent_own c a
-own_of c (caller.Cpu looks) = cpu_own c looks
+own_of c (caller.Cpu q) = cpu_own c q
 
 -- ---- what it holds, has open, owes and sees
 
 -- the caller holds lock n
 abbrev pub holds : ℕ → Caller → Bool
 holds n (caller.Agent a) = agent_holds n a
-holds n (caller.Cpu looks) = cpu_holds n looks
+holds n (caller.Cpu q) = cpu_holds n q
 
 -- the granules that it has changed and whose generations it hasn't raised, with their former GPIs
 abbrev pub open_by : Caller → List (ℕ × Gpi)
 open_by (caller.Agent a) = agent_opens a
-open_by (caller.Cpu looks) = cpu_opens looks
+open_by (caller.Cpu q) = cpu_opens q
 
 -- it has changed a granule of this region, and not yet raised the generation of this size
 abbrev pub is_due : Size → ℕ → Caller → Bool
 is_due y region (caller.Agent a) = agent_owes y region a
-is_due y region (caller.Cpu looks) = cpu_owes y region looks
+is_due y region (caller.Cpu q) = cpu_owes y region q
 
 -- where it is in what it does to the L1 words
 abbrev pub holder_by : Caller → Holder
 holder_by (caller.Agent a) = agent_holder a
-holder_by (caller.Cpu looks) = cpu_holder looks
+holder_by (caller.Cpu q) = cpu_holder q
 
 -- what it keeps is what is in the map and in the words
 abbrev pub Sees : (ℕ → Gpi) → List ℕ → Caller → Type 0
 Sees m words (caller.Agent a) = agent_sees m words a
-Sees m words (caller.Cpu looks) = cpu_sees m words looks
+Sees m words (caller.Cpu q) = cpu_sees m words q

@@ -18,7 +18,7 @@ use Rattle.history.specs.Calls.{entries_by}
 use Rattle.history.specs.Counts.{is_by, count_of}
 use Rattle.core_machine.specs.declared.caller.Caller.{Caller}
 use Rattle.core_machine.specs.Facts.{AreUndisturbed, IsCounted, generation_word, is_on_block}
-use Rattle.core_machine.specs.InnerCallers.{IsMade, call_of, caller_tasks, known_answers, own_of, holds, open_by, is_due, holder_by, Sees}
+use Rattle.core_machine.specs.InnerCallers.{IsMade, call_of, caller_tasks, known_answers, own_of, holds, open_by, is_due, holder_by, number_by, duty_by, Sees}
 use Rattle.core_machine.specs.InnerScene.{Scene, state_in, map_in}
 
 pub record HasShape (g : GeometryData) (s : Scene) : Type 0 where
@@ -65,6 +65,27 @@ GenerationsCount g words callers h =
     → generation_word g words y region + count_by (is_due y region) callers
     ≡ count_of g.setup.first (granule_bytes g.setup) y region h
 
+-- ---- duty words
+
+-- The duty word of each processor is 1 between the first and the last act of an access, else 0.
+abbrev pub DutyOfEach : GeometryData → List ℕ → List Caller → Type 0
+DutyOfEach g words callers =
+    (c p : ℕ) (caller : Caller) → slice_get callers c ≡ Some caller → number_by caller ≡ Some p
+    → slice_index words (place_of g (Duty p)) ≡ duty_by caller
+
+-- No two processors have one number.
+abbrev pub NumbersDiffer : List Caller → Type 0
+NumbersDiffer callers =
+    (c d p : ℕ) (caller other : Caller)
+    → slice_get callers c ≡ Some caller → slice_get callers d ≡ Some other
+    → number_by caller ≡ Some p → number_by other ≡ Some p → c ≡ d
+
+-- ---- lines
+
+-- lines aren't used yet
+abbrev pub NoLines : GeometryData → List ℕ → Type 0
+NoLines g words = (i : ℕ) → i < l1_words g → slice_index words (place_of g (Line i)) ≡ 0
+
 -- ---- calls that are alone
 
 -- since call k of caller c took lock n, no other has made an entry on its lock block
@@ -104,11 +125,6 @@ pub record IsHistoryOf (first : List Gpi) (callers : List Caller) (h : List Entr
 
 -- ---- the whole
 
--- duty words and lines aren't used yet
-pub record AreIdle (g : GeometryData) (words : List ℕ) : Type 0 where
-  pub duty : (cpu : ℕ) → cpu < g.cpus → slice_index words (place_of g (Duty cpu)) ≡ 0
-  pub lines : (i : ℕ) → i < l1_words g → slice_index words (place_of g (Line i)) ≡ 0
-
 -- The words and callers of a scene fit its history from its first map.
 pub record HoldsIn (g : GeometryData) (s : Scene) : Type 0 where
   pub shape : HasShape g s
@@ -122,4 +138,6 @@ pub record HoldsIn (g : GeometryData) (s : Scene) : Type 0 where
   pub alone : HoldersAreAlone g.setup s.callers s.history
   pub counted : AnswersCount g s.callers s.history
   pub history : IsHistoryOf s.first s.callers s.history
-  pub idle : AreIdle g s.words
+  pub duties : DutyOfEach g s.words s.callers
+  pub numbers : NumbersDiffer s.callers
+  pub lines : NoLines g s.words

@@ -1,6 +1,6 @@
 -- What a scenario is for the core: its geometry, its first map, the tasks of its callers, and its
 -- turns.
-use Rattle.std.specs.Prelude.{◌≡◌, ℕ, ◌-◌, Bool, true, false, List, ◌++◌, length, map, get_or, replicate, count_by, None, if◌then◌else◌}
+use Rattle.std.specs.Prelude.{◌≡◌, ℕ, ◌-◌, Bool, true, false, List, ◌++◌, length, map, take, get_or, replicate, count_by, None, if◌then◌else◌}
 use Rattle.std.specs.List.{flat_map, range_with_len}
 use Rattle.gpi_values.specs.declared.gpi.Gpi.{Gpi}
 use Rattle.gpi_values.specs.declared.gpi.Gpi.TheVariants as gpi
@@ -17,6 +17,7 @@ use Rattle.scenario_text.specs.declared.scenario.Script.{Script}
 use Rattle.scenario_text.specs.declared.scenario.Script.TheVariants as script
 use Rattle.scenario_text.specs.declared.scenario.Ask.{Ask}
 use Rattle.scenario_text.specs.declared.scenario.Ask.TheVariants as ask
+use Rattle.scenario_text.specs.declared.scenario.Look.{Look}
 use Rattle.scenario_text.specs.declared.scenario.Slot.{Slot}
 use Rattle.scenario_text.specs.declared.scenario.Slot.TheVariants as slot
 use Rattle.history.specs.declared.call.Task.{Task}
@@ -40,16 +41,24 @@ task_of_ask (ask.SmcDelegate pa world) =
 task_of_ask (ask.SmcUndelegate pa world) =
     if is_admitted world then task.Undelegate pa source.Realm else task.Unknown
 
+-- the task of an access
+abbrev pub task_of_look : Look → Task
+task_of_look look = task.Look look.pa look.space
+
 -- the tasks of a script
 abbrev pub tasks_of : Script → List Task
 tasks_of (script.Agent asks) = map task_of_ask asks
-tasks_of (script.Cpu looks) = map (λ look. task.Look look.pa look.space) looks
+tasks_of (script.Cpu looks) = map task_of_look looks
 
 -- ---- words and map before the first act
 
 abbrev pub is_cpu : Script → Bool
 is_cpu (script.Agent asks) = false
 is_cpu (script.Cpu looks) = true
+
+-- the number of caller c, a processor: processors are numbered from 0, in the order of the scripts
+abbrev pub cpu_number : List Script → ℕ → ℕ
+cpu_number scripts c = count_by is_cpu (take c scripts)
 
 abbrev pub geometry_of : Scenario → GeometryData
 geometry_of s = record {

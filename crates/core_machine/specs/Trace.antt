@@ -4,7 +4,7 @@ use Rattle.std.specs.Prelude.{◌≡◌, ◌≢◌, ◌⊎◌, ℕ, ◌/◌, ◌
 use Rattle.std.specs.List.{All, filter, flat_map}
 use Rattle.std.specs.Int.{bit_not, w64}
 use Rattle.std.specs.Int.Bits.{bit_and}
-use Rattle.gpt_descriptors.specs.Places.{GeometryData}
+use Rattle.gpt_descriptors.specs.Places.{GeometryData, Duty, place_of}
 use Rattle.shared_words.specs.declared.act.Act.{Act}
 use Rattle.shared_words.specs.declared.act.Act.TheVariants as act
 use Rattle.shared_words.specs.Acts.{place_in, answer_of, after_act}
@@ -13,8 +13,9 @@ use Rattle.scenario_text.specs.declared.scenario.Script.TheVariants as script
 use Rattle.history.specs.declared.call.Answer.{Answer}
 use Rattle.history.specs.declared.entry.Entry.{Entry}
 use Rattle.history.specs.Events.{CallEvent}
-use Rattle.delegate_ops.specs.Script.{Follows}
-use Rattle.core_machine.specs.Scenarios.{task_of_ask}
+use Rattle.delegate_ops.specs.Script as agents
+use Rattle.processor.specs.Script as cpus
+use Rattle.core_machine.specs.Scenarios.{task_of_ask, task_of_look, cpu_number}
 
 -- an event of a trace: a caller, and its act with its answer and its entries
 pub record TraceEvent : Type 0 where
@@ -45,16 +46,17 @@ AreAnswered words (e ∷ trace) =
 
 -- ---- scripts
 
--- a caller's events follow its script; a processor makes no act yet, and has no answers
-abbrev pub FollowsScript : GeometryData → ℕ → Script → List Answer → List CallEvent → Type 0
-FollowsScript g c (script.Agent asks) answers events =
-    Follows g c (map task_of_ask asks) answers events
-FollowsScript g c (script.Cpu looks) answers events = (answers ≡ []) × (events ≡ [])
+-- the events of caller c follow its script; where it is a processor, its number is p
+abbrev pub FollowsScript : GeometryData → ℕ → ℕ → Script → List Answer → List CallEvent → Type 0
+FollowsScript g c p (script.Agent asks) answers events =
+    agents.Follows g c (map task_of_ask asks) answers events
+FollowsScript g c p (script.Cpu looks) answers events =
+    cpus.Follows g p c (map task_of_look looks) answers events
 
--- a caller makes no further act: each of its calls is answered; a processor makes none yet
+-- a caller makes no further act: each of its calls is answered
 abbrev pub HasEnded : Option Script → List Answer → Type 0
 HasEnded (Some (script.Agent asks)) answers = length answers ≡ length asks
-HasEnded (Some (script.Cpu looks)) answers = Unit {0}
+HasEnded (Some (script.Cpu looks)) answers = length answers ≡ length looks
 HasEnded None answers = Unit {0}
 
 -- the answers of a caller
@@ -94,6 +96,24 @@ releases_by n a = false
 abbrev pub releases : ℕ → TraceEvent → Bool
 releases n e = releases_by n e.event.act
 
+-- ---- duty words
+
+-- the act sets the duty word of processor p: it stores 1 there
+abbrev pub sets_by : GeometryData → ℕ → Act → Bool
+sets_by g p (act.Store place value) = (place == place_of g (Duty p)) && (value == 1)
+sets_by g p a = false
+
+abbrev pub sets : GeometryData → ℕ → TraceEvent → Bool
+sets g p e = sets_by g p e.event.act
+
+-- the act clears it: it stores 0 there
+abbrev pub clears_by : GeometryData → ℕ → Act → Bool
+clears_by g p (act.Store place value) = (place == place_of g (Duty p)) && (value == 0)
+clears_by g p a = false
+
+abbrev pub clears : GeometryData → ℕ → TraceEvent → Bool
+clears g p e = clears_by g p e.event.act
+
 -- ---- the whole
 
 -- A trace of these turns, from words before the first act to these answers and words: its callers
@@ -109,4 +129,4 @@ pub record IsTrace (g : GeometryData) (scripts : List Script) (before : List ℕ
   pub left : words ≡ words_after before trace
   pub follows : (c : ℕ) (s : Script) (own : List Answer) → slice_get scripts c ≡ Some s
       → slice_get answers c ≡ Some own
-      → FollowsScript g c s own (events_of c trace)
+      → FollowsScript g c (cpu_number scripts c) s own (events_of c trace)

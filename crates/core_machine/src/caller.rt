@@ -5,15 +5,15 @@ ghost use Rattle.core_machine.specs.InnerCallers.{caller_next, caller_took, call
 
 use delegate_ops::Agent;
 use history::Answer;
+use processor::Cpu;
 use shared_words::{Act, StoreRun, Words};
 use std::alloc::Global;
 
-/// One that acts on the shared words: an agent, or a processor, of which the number of accesses
-/// alone is kept until processors act.
+/// One that acts on the shared words: an agent, or a processor.
 #[derive(Debug, Drop)]
 pub enum Caller {
     Agent(Agent),
-    Cpu(u64),
+    Cpu(Cpu),
 }
 
 impl Caller {
@@ -23,7 +23,7 @@ impl Caller {
     {
         match self {
             Caller::Agent(agent) => agent.next(),
-            Caller::Cpu(_) => None,
+            Caller::Cpu(cpu) => cpu.next(),
         }
     }
 
@@ -35,7 +35,7 @@ impl Caller {
     {
         match self {
             Caller::Agent(agent) => agent.took(old),
-            Caller::Cpu(_) => {}
+            Caller::Cpu(cpu) => cpu.took(old),
         }
     }
 
@@ -52,7 +52,7 @@ impl Caller {
     {
         match self {
             Caller::Agent(agent) => agent.turn(words),
-            Caller::Cpu(_) => false,
+            Caller::Cpu(cpu) => cpu.turn(words),
         }
     }
 
@@ -88,7 +88,7 @@ impl Caller {
     {
         match self {
             Caller::Agent(agent) => agent.answers(),
-            Caller::Cpu(_) => &[],
+            Caller::Cpu(cpu) => cpu.answers(),
         }
     }
 
@@ -98,7 +98,7 @@ impl Caller {
     {
         match self {
             Caller::Agent(agent) => agent.into_answers(),
-            Caller::Cpu(_) => Vec::new(alloc),
+            Caller::Cpu(cpu) => cpu.into_answers(),
         }
     }
 
@@ -108,7 +108,7 @@ impl Caller {
     {
         match self {
             Caller::Agent(agent) => agent.left(),
-            Caller::Cpu(looks) => *looks,
+            Caller::Cpu(cpu) => cpu.left(),
         }
     }
 }

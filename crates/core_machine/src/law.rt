@@ -9,8 +9,8 @@ pub fn one_act_keeps()
 {}
 
 /// What is known of a caller by how it was made alone, whatever its acts are answered: its next act
-/// is made on one of the shared words, an act keeps its geometry and its tasks, and an agent has a
-/// next act unless each of its tasks is answered.
+/// is made on one of the shared words, an act keeps its geometry, its tasks and its number, and an
+/// agent has a next act unless each of its tasks is answered.
 pub fn callers_keep_to_their_words()
     ensures places { ActsHavePlaces }
     ensures kept { ActsKeepTheirCaller }

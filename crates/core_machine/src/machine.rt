@@ -1,6 +1,7 @@
 ghost use Rattle.std.specs.Prelude.{◌≡◌, ◌<◌, ◌≤◌, ℕ, List, [], ◌++◌, length, replicate, false};
 ghost use Rattle.std.specs.List.{All};
 ghost use Rattle.gpi_values.specs.declared.gpi.Gpi.{Gpi};
+ghost use Rattle.core_machine.specs.InnerInvariant.{NumbersDiffer};
 ghost use Rattle.core_machine.specs.InnerOpening.{IsFresh, AreStarting};
 ghost use Rattle.core_machine.specs.InnerMachine.{InvariantFor, HasInvariant, KeepsInvariant, after_turn, after_turns, turn_entries, trace_of, MachineData, machine_of};
 ghost use Rattle.core_machine.specs.Trace.{history_of};
@@ -27,11 +28,13 @@ impl<W: Words> Model for Machine<W> {
 
 impl<W: Words> Machine<W> {
     /// A machine before the first act: the callers were made with this geometry and have made no
-    /// act, all shared words are there, no lock is held, the tables among them mean a map and their
-    /// words are its canonical ones, duty words and lines are 0, and each generation is the first
-    /// one. It has the invariant with the empty history from that map.
+    /// act, no two processors among them have one number, all shared words are there, no lock is
+    /// held, the tables among them mean a map and their words are its canonical ones, duty words and
+    /// lines are 0, and each generation is the first one. It has the invariant with the empty
+    /// history from that map.
     pub fn new(geometry: Geometry, callers: Vec<Caller>, words: W) -> Machine<W>
         requires fresh { All (IsFresh geometry) callers.items }
+        requires numbers { NumbersDiffer callers.items }
         requires starting { (first : List Gpi) × AreStarting geometry first (W.words words) }
         ensures machine { result ≡ machine_of geometry callers.items (W.words words) }
         ensures invariant { (first : List Gpi) → AreStarting geometry first (W.words words)

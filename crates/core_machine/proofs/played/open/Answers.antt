@@ -1,14 +1,15 @@
-use Rattle.std.proofs.Common.{sym, ◌∙◌, subst}
-use Rattle.std.specs.List.{All}
-use Rattle.core_machine.proofs.PlayLemmas.{callers_fresh, starts_at, opened_is}
+use Rattle.std.proofs.Common.{◌∙◌}
+use Rattle.core_machine.proofs.PlayLemmas.{fresh_at, starts_at, opened_is}
 use Rattle.core_machine.proofs.played.open.Goals as goal
 use Rattle.core_machine.specs.Scenarios.{first_map}
-use Rattle.core_machine.specs.InnerCallers.{IsFresh}
 
 pub new-requires-2-clause-fresh : goal.new-requires-2-clause-fresh
 new-requires-2-clause-fresh c =
-    subst (All (IsFresh c.geometry_of-geometry.result)) (sym c.in_ok-callers.ensures)
-    (callers_fresh c.geometry_of-geometry.result c.args.scenario.now.scripts c.geometry_of-geometry.ensures.known)
+    (fresh_at c.args.scenario.now c.geometry_of-geometry.result c.in_ok-callers.callers.items c.requires.wellformed c.geometry_of-geometry.ensures.geometry c.geometry_of-geometry.ensures.known c.in_ok-callers.ensures).0
+
+pub new-requires-2-clause-numbers : goal.new-requires-2-clause-numbers
+new-requires-2-clause-numbers c =
+    (fresh_at c.args.scenario.now c.geometry_of-geometry.result c.in_ok-callers.callers.items c.requires.wellformed c.geometry_of-geometry.ensures.geometry c.geometry_of-geometry.ensures.known c.in_ok-callers.ensures).1
 
 pub new-requires-2-clause-starting : goal.new-requires-2-clause-starting
 new-requires-2-clause-starting c = (

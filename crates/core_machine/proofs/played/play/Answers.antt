@@ -1,13 +1,13 @@
 use Rattle.std.proofs.Common.{◌≡◌, ℕ, List, [], length, sym, ap, ◌∙◌, subst, arith}
 use Rattle.std.specs.Prelude.{Result, Ok}
-use Rattle.std.proofs.lemmas.List.{length-map}
+use Rattle.core_machine.proofs.NumberLemmas.{callers_count}
 use Rattle.scenario_text.specs.declared.scenario.Script.{Script}
 use Rattle.history.specs.declared.outcome.Outcome.{Outcome}
 use Rattle.std.specs.List.{All, flat_map}
 use Rattle.scenario_text.specs.declared.scenario.Slot.{Slot}
 use Rattle.core_machine.specs.InnerMachine.{MachineData, InvariantFor, after_turns}
 use Rattle.core_machine.specs.Trace.{history_of}
-use Rattle.core_machine.specs.InnerPlay.{caller_of, NamesCaller, played_trace, outcome_of}
+use Rattle.core_machine.specs.InnerPlay.{NamesCaller, played_trace, outcome_of}
 use Rattle.core_machine.proofs.PlayLemmas.{names_at, played_is, played_stands}
 use Rattle.core_machine.proofs.MachineLemmas.{length_so}
 use Rattle.core_machine.proofs.RunLemmas.{run_left, run_size}
@@ -24,7 +24,7 @@ pub leave-requires-clause-room : goal.leave-requires-clause-room
 leave-requires-clause-room c =
     let turned = length_so c.in_ok-machine.machine c.schedule.new.self (flat_map (slot_turns (length c.in_ok-machine.machine.callers)) c.as_slice-2.result.now) c.schedule.ensures in
     let opened : length c.in_ok-machine.machine.callers ≡ length c.args.scenario.now.scripts =
-    ap (λ (m : MachineData). length m.callers) c.in_ok-machine.ensures.machine ∙ length-map c.args.scenario.now.scripts (caller_of (geometry_of c.args.scenario.now)) in
+    ap (λ (m : MachineData). length m.callers) c.in_ok-machine.ensures.machine ∙ callers_count (geometry_of c.args.scenario.now) 0 c.args.scenario.now.scripts in
     let lent : length c.as_slice.result.now ≡ length c.args.scenario.now.scripts = ap (λ (scripts : List Script). length scripts) c.as_slice.ensures in
     omega (arith, turned, opened, lent, c.in_ok-room.ensures.capacity)
 

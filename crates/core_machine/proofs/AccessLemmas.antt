@@ -1,0 +1,128 @@
+-- The entries of accesses: each is allowed by its task and its answer, and is on no lock block.
+use Rattle.std.proofs.Common.{◌≡◌, ℕ, suc, ◌+◌, ◌<◌, ◌++◌, ◌∷◌, [], ◌/◌, List, Bool, true, false, Option, Some, None, length, take, refl, sym, ap, ◌∙◌, subst, arith, inl, inr}
+use Rattle.std.specs.Prelude.{slice_get}
+use Rattle.std.specs.List.{All, list_any}
+use Rattle.std.proofs.lemmas.Bool.{cases_Bool}
+use Rattle.std.proofs.lemmas.List.Elements.{All-nil, All-append, All-weaker}
+use Rattle.std.proofs.lemmas.List.Folds.{list_any-append}
+use Rattle.std.proofs.lemmas.Option.{slice_get_within, get_or_from_slice_get}
+use Rattle.core_machine.proofs.Names.{Gpi, granule_bytes, GeometryData, Task, Answer, Entry, CallEvent, CpuData, IsCpu, call_entries, answered_entries}
+use Rattle.core_machine.proofs.Names.task
+use Rattle.core_machine.proofs.Names.answer
+use Rattle.core_machine.proofs.Names.entry
+use Rattle.gpi_values.specs.declared.gpi.Space.{Space}
+use Rattle.gpt_descriptors.specs.Sizes.{space_bytes}
+use Rattle.gpt_descriptors.specs.Places.{block_gpi_of}
+use Rattle.history.specs.declared.call.Access.{Access}
+use Rattle.history.specs.Calls.{IsUnderWay}
+use Rattle.history.specs.Legality.{is_seen, is_still}
+use Rattle.delegate_ops.specs.Deciding.{is_look}
+use Rattle.processor.specs.declared.walk.Walk.{Walk}
+use Rattle.processor.specs.Accesses.{IsAccess, walk_answer}
+use Rattle.processor.specs.InnerProgress.{Stage}
+use Rattle.processor.specs.InnerEntries.{entries_at, own_entries, walk_at, walk_entries}
+use Rattle.processor.specs.InnerCpus.{task_of}
+use Rattle.processor.specs.InnerScript.{HasWalked}
+use Rattle.processor.specs.Script.{AreCallEvents, IsCall, IsLook}
+use Rattle.core_machine.proofs.AddressLemmas.{granule_within}
+use Rattle.core_machine.proofs.CpuActs.{answers_seen}
+use Rattle.core_machine.proofs.EntryLemmas.{IsOwnEntry}
+use Rattle.core_machine.proofs.ListLemmas.{all_one}
+
+-- ---- accesses
+
+-- each task of a processor is an access
+pub access_there : (q : CpuData) (k : ℕ) (t : Task) → IsCpu q → slice_get q.tasks k ≡ Some t → IsAccess q.geometry t
+access_there q k t is at = subst (IsAccess q.geometry) (get_or_from_slice_get q.tasks k t t at) (is.accesses k t (slice_get_within q.tasks k t at))
+
+pub access_looks : (g : GeometryData) (t : Task) → IsAccess g t → is_look t ≡ true
+access_looks g (task.Look pa space) access = refl
+access_looks g t access = absurd access
+
+-- ---- the entries of one access
+
+-- a walk's entry is allowed by the answer that it gives
+walk_allowed : (g : GeometryData) (c k pa : ℕ) (space : Space) (w : Walk) (hi : ℕ) → pa < space_bytes g.setup
+    → All (IsOwnEntry g c k (task.Look pa space) (walk_answer space w hi)) (walk_entries g c k pa space (Some w))
+walk_allowed g c k pa space w hi inside =
+    all_one (IsOwnEntry g c k (task.Look pa space) (walk_answer space w hi)) _
+    (record { caller = refl; call = refl; allows = (refl, refl, (refl, refl, refl, refl)); granule = refl; inside = granule_within g.setup pa inside })
+
+look_allowed : (g : GeometryData) (p c k pa : ℕ) (space : Space) (o : Option Gpi) (given : Answer) (events : List CallEvent) → pa < space_bytes g.setup → IsLook g p c k pa space o given events
+    → All (IsOwnEntry g c k (task.Look pa space) given) (call_entries (granule_bytes g.setup) c k (task.Look pa space) given)
+look_allowed g p c k pa space (Some gpi) given events inside look =
+    subst (λ (a : Answer). All (IsOwnEntry g c k (task.Look pa space) a) (call_entries (granule_bytes g.setup) c k (task.Look pa space) a)) (sym look.0) (All-nil _)
+look_allowed g p c k pa space None given events inside look =
+    subst (λ (a : Answer). All (IsOwnEntry g c k (task.Look pa space) a) (call_entries (granule_bytes g.setup) c k (task.Look pa space) a)) (sym look.is) (walk_allowed g c k pa space look.walk look.hi inside)
+
+access_allowed : (g : GeometryData) (p c k : ℕ) (t : Task) (given : Answer) (events : List CallEvent) → IsAccess g t → IsCall g p c k t given events
+    → All (IsOwnEntry g c k t given) (call_entries (granule_bytes g.setup) c k t given)
+access_allowed g p c k (task.Look pa space) given events inside call = look_allowed g p c k pa space (block_gpi_of g pa) given events inside call
+access_allowed g p c k t given events inside call = absurd inside
+
+-- those of the answered accesses
+pub accessed_each : (Q : Entry → Type 0) (g : GeometryData) (p c k : ℕ) (tasks : List Task) (answers : List Answer) (events : List CallEvent) → AreCallEvents g p c k tasks answers events
+    → ((j : ℕ) (t : Task) → slice_get tasks j ≡ Some t → IsAccess g t)
+    → ((j : ℕ) (t : Task) (a : Answer) (e : Entry) → slice_get tasks j ≡ Some t → slice_get answers j ≡ Some a → IsOwnEntry g c (k + j) t a e → Q e)
+    → All Q (answered_entries (granule_bytes g.setup) c k tasks answers)
+accessed_each Q g p c k [] answers events are accesses each = All-nil Q
+accessed_each Q g p c k (t ∷ tasks) [] events are accesses each = All-nil Q
+accessed_each Q g p c k (t ∷ tasks) (a ∷ answers) events are accesses each =
+    All-append Q (call_entries (granule_bytes g.setup) c k t a) (answered_entries (granule_bytes g.setup) c (k + 1) tasks answers)
+    (All-weaker (IsOwnEntry g c k t a) Q
+    (λ e own. each 0 t a e refl refl (subst (λ (n : ℕ). IsOwnEntry g c n t a e) (let here : k ≡ k + 0 = omega arith in here) own))
+    (call_entries (granule_bytes g.setup) c k t a) (access_allowed g p c k t a are.0 (accesses 0 t refl) are.3))
+    (accessed_each Q g p c (k + 1) tasks answers are.1 are.4 (λ j u asks. accesses (suc j) u asks)
+    (λ j u b e asks given own. each (suc j) u b e asks given (subst (λ (n : ℕ). IsOwnEntry g c n u b e) (let there : k + 1 + j ≡ k + suc j = omega arith in there) own)))
+
+-- ---- the access under way
+
+walk_under_way : (g : GeometryData) (c k pa : ℕ) (space : Space) (o : Option Walk) → pa < space_bytes g.setup → (a : Answer) × All (IsOwnEntry g c k (task.Look pa space) a) (walk_entries g c k pa space o)
+    × (n : ℕ) × (walk_entries g c k pa space o ≡ take n (call_entries (granule_bytes g.setup) c k (task.Look pa space) a))
+walk_under_way g c k pa space None inside = (answer.Inval, All-nil _, 0, refl)
+walk_under_way g c k pa space (Some w) inside = (walk_answer space w 0, walk_allowed g c k pa space w 0 inside, 1, refl)
+
+-- its entries are the first ones of an answer that it can have, and allowed by it
+pub access_under_way : (g : GeometryData) (c k : ℕ) (s : Stage) (t : Task) → IsAccess g t → (a : Answer) × All (IsOwnEntry g c k t a) (entries_at g c k s (Some t))
+    × (n : ℕ) × (entries_at g c k s (Some t) ≡ take n (call_entries (granule_bytes g.setup) c k t a))
+access_under_way g c k s (task.Look pa space) inside = walk_under_way g c k pa space (walk_at s) inside
+access_under_way g c k s t inside = absurd inside
+
+-- ---- what no entry of an access passes
+
+-- a test that fails on the entries of accesses
+abbrev pub FailsLooks : (Entry → Bool) → Type 0
+FailsLooks p = (c k granule : ℕ) (space : Space) (gpi : Gpi) (allowed : Bool) → p (entry.Looked c k granule space gpi allowed) ≡ false
+
+seen_fails : (p : Entry → Bool) (bytes c k : ℕ) (t : Task) (given : Answer) → FailsLooks p → is_seen given ≡ true → list_any p (call_entries bytes c k t given) ≡ false
+seen_fails p bytes c k (task.Look pa space) (answer.Seen access) fails seen =
+    elim (cases_Bool (is_still access.via)) [ inl still ↦ rw still refl | inr other ↦ rw (other, fails c k (pa / bytes) space access.gpi access.allowed) refl ]
+seen_fails p bytes c k (task.Delegate pa source) (answer.Seen access) fails seen = refl
+seen_fails p bytes c k (task.Undelegate pa source) (answer.Seen access) fails seen = refl
+seen_fails p bytes c k task.Unknown (answer.Seen access) fails seen = refl
+seen_fails p bytes c k t given fails seen = absurd cc
+
+answered_fail : (p : Entry → Bool) (bytes c k : ℕ) (tasks : List Task) (answers : List Answer) → FailsLooks p → ((j : ℕ) (a : Answer) → slice_get answers j ≡ Some a → is_seen a ≡ true)
+    → list_any p (answered_entries bytes c k tasks answers) ≡ false
+answered_fail p bytes c k [] answers fails seen = refl
+answered_fail p bytes c k (t ∷ tasks) [] fails seen = refl
+answered_fail p bytes c k (t ∷ tasks) (a ∷ answers) fails seen =
+    list_any-append p (call_entries bytes c k t a) (answered_entries bytes c (k + 1) tasks answers)
+    ∙ rw (seen_fails p bytes c k t a fails (seen 0 a refl), answered_fail p bytes c (k + 1) tasks answers fails (λ j b there. seen (suc j) b there)) refl
+
+walk_fails : (p : Entry → Bool) (g : GeometryData) (c k pa : ℕ) (space : Space) (o : Option Walk) → FailsLooks p → list_any p (walk_entries g c k pa space o) ≡ false
+walk_fails p g c k pa space None fails = refl
+walk_fails p g c k pa space (Some w) fails = rw (fails c k _ space w.gpi _) refl
+
+under_way_fails : (p : Entry → Bool) (g : GeometryData) (c k : ℕ) (s : Stage) (o : Option Task) → FailsLooks p → list_any p (entries_at g c k s o) ≡ false
+under_way_fails p g c k s None fails = refl
+under_way_fails p g c k s (Some (task.Look pa space)) fails = walk_fails p g c k pa space (walk_at s) fails
+under_way_fails p g c k s (Some (task.Delegate pa source)) fails = refl
+under_way_fails p g c k s (Some (task.Undelegate pa source)) fails = refl
+under_way_fails p g c k s (Some task.Unknown) fails = refl
+
+pub own_fail : (p : Entry → Bool) (c : ℕ) (q : CpuData) (events : List CallEvent) → FailsLooks p → HasWalked c q events → list_any p (own_entries c q) ≡ false
+own_fail p c q events fails walked =
+    list_any-append p (answered_entries (granule_bytes q.geometry.setup) c 0 q.tasks q.answers) (entries_at q.geometry c (length q.answers) q.stage (task_of q))
+    ∙ rw (answered_fail p (granule_bytes q.geometry.setup) c 0 q.tasks q.answers fails (λ j a there. answers_seen q.geometry q.number c 0 j q.tasks q.answers walked.calls a walked.answered there),
+    under_way_fails p q.geometry c (length q.answers) q.stage (task_of q) fails) refl
