@@ -1,9 +1,9 @@
 ghost use Rattle.scenario_text.specs.Spelling.{WellFormed};
 
-use core_machine::{Caller, callers, play};
+use core_machine::{Caller, callers, geometry_of, play};
 use gpi_values::Gpi;
-use gpt_descriptors::{Generations, Size};
-use history::{Answer, Outcome};
+use gpt_descriptors::{Generations, Reach, Size};
+use history::{Access, Answer, Outcome, Via};
 use region_plan::Plan;
 use scenario_text::{Scenario, parse};
 use shared_words::Act;
@@ -232,23 +232,109 @@ fn a_worn_generation_ends_the_transitions(rt: HostRuntime) -> Result<(), Fail> {
     Ok(())
 }
 
+/// The callers of a scenario before their first act.
+fn begun(alloc: Global, scenario: &Scenario) -> Option<Vec<Caller>>
+    requires { WellFormed scenario.now }
+{
+    let regions = scenario.regions.as_slice();
+    match Plan::plan(alloc, regions, &scenario.setup) {
+        Ok(plan) => match build(alloc, &plan, scenario.setup.base()) {
+            Ok(tables) => {
+                let geometry = geometry_of(scenario, &tables);
+                callers(alloc, scenario, geometry).ok()
+            }
+            Err(_) => None,
+        },
+        Err(_) => None,
+    }
+}
+
+/// The callers of such a scenario.
+fn begun_text(alloc: Global, rest: &str) -> Result<Vec<Caller>, Fail> {
+    let text = text(alloc, 0, 0, "nonsecure", rest)?;
+    match parse(alloc, text.as_bytes()) {
+        Ok(scenario) => Ok(begun(alloc, &scenario).ok_or("no callers")?),
+        Err(_) => Err("no scenario")?,
+    }
+}
+
 #[test]
 fn callers_begin_without_answers(rt: HostRuntime) -> Result<(), Fail> {
     let rest =
-        "agent\ndelegate 0x1 realm\ndelegate 0x0 realm\ncpu\nlook 0x0 realm\nlook 0x0 secure\n";
-    let outcome = played_text(rt.alloc(), 0, "nonsecure", rest)?;
-    let text = text(rt.alloc(), 0, 0, "nonsecure", rest)?;
-    let scenario = parse(rt.alloc(), text.as_bytes())
-        .ok()
-        .ok_or("no scenario")?;
-    let made = callers(rt.alloc(), &scenario, outcome.geometry)?;
-    assert_eq!(rt; made.len(), 2);
-    let agent = made.get(0).ok_or("no agent")?;
+        "cpu\nlook 0x0 realm\nagent\ndelegate 0x1 realm\ndelegate 0x0 realm\ncpu\nlook 0x0 secure\n";
+    let made = begun_text(rt.alloc(), rest)?;
+    assert_eq!(rt; made.len(), 3);
+    let agent = made.get(1).ok_or("no agent")?;
     assert_eq!(rt; agent.answers(), [Answer::Inval].as_slice());
     assert_eq!(rt; agent.left(), 1);
     assert_eq!(rt; agent.next(), Some(Act::Or(0, 1)));
-    let cpu = made.get(1).ok_or("no processor")?;
-    assert_eq!(rt; cpu.left(), 2);
-    assert_eq!(rt; cpu.next(), None);
+    // Processors are numbered in their order, and so are their duty words.
+    let first = made.get(0).ok_or("no processor")?;
+    assert_eq!(rt; first.left(), 1);
+    assert_eq!(rt; first.next(), Some(Act::Store(2186, 1)));
+    let second = made.get(2).ok_or("no processor")?;
+    assert_eq!(rt; second.next(), Some(Act::Store(2187, 1)));
+    assert!(rt; second.answers().is_empty());
+    Ok(())
+}
+
+/// A cold access at the 64 KB around a granule.
+fn cold(gpi: Gpi, allowed: bool, lo: u64, hi: u64) -> Answer {
+    let reach = Reach::Word;
+    Answer::Seen(Access {
+        allowed,
+        gpi,
+        level: 1,
+        via: Via::Cold { reach, lo, hi },
+    })
+}
+
+#[test]
+fn accesses_are_answered_by_the_word_and_its_generation(rt: HostRuntime) -> Result<(), Fail> {
+    let rest = "cpu\nlook 0x0 nonsecure\nlook 0x0 realm\nlook 0x40000000 root\nturn 0 100\n";
+    let outcome = played_text(rt.alloc(), 7, "nonsecure", rest)?;
+    let beyond = Answer::Seen(Access {
+        allowed: true,
+        gpi: Gpi::Any,
+        level: 0,
+        via: Via::Still,
+    });
+    let want = [
+        cold(Gpi::NonSecure, true, 7, 7),
+        cold(Gpi::NonSecure, false, 7, 7),
+        beyond,
+    ];
+    assert_eq!(rt; answers(&outcome, 0)?, want.as_slice());
+    assert_eq!(rt; *outcome.words.as_slice().get(2186).ok_or("no words")?, 0);
+    Ok(())
+}
+
+#[test]
+fn an_access_may_be_cut_with_its_duty_word_set(rt: HostRuntime) -> Result<(), Fail> {
+    let rest = "agent\ncpu\nlook 0x40000000 root\nlook 0x0 nonsecure\nturn 1 6\n";
+    let outcome = played_text(rt.alloc(), 0, "nonsecure", rest)?;
+    assert_eq!(rt; answers(&outcome, 1)?.len(), 1);
+    assert_eq!(rt; *outcome.words.as_slice().get(2186).ok_or("no words")?, 1);
+    Ok(())
+}
+
+#[test]
+fn an_access_sees_a_change_before_or_after_its_word(rt: HostRuntime) -> Result<(), Fail> {
+    // The change is made between the generations and the word, and after the word; its generations
+    // are raised before the access loads the one of its word again.
+    let before =
+        "agent\ndelegate 0x0 realm\ncpu\nlook 0x0 realm\nturn 0 5\nturn 1 4\nturn 0 4\nturn 1 3\n";
+    let outcome = played_text(rt.alloc(), 0, "nonsecure", before)?;
+    assert_eq!(rt;
+        answers(&outcome, 1)?,
+        [cold(Gpi::Realm, true, 0, 1)].as_slice()
+    );
+    let after =
+        "agent\ndelegate 0x0 realm\ncpu\nlook 0x0 realm\nturn 0 5\nturn 1 5\nturn 0 4\nturn 1 2\n";
+    let outcome = played_text(rt.alloc(), 0, "nonsecure", after)?;
+    assert_eq!(rt;
+        answers(&outcome, 1)?,
+        [cold(Gpi::NonSecure, false, 0, 1)].as_slice()
+    );
     Ok(())
 }
