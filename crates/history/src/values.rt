@@ -15,7 +15,9 @@ use std::alloc::{AllocError, Global};
 /// Whether an access between the generations `lo` and `hi` of a region saw this GPI: one of those
 /// that its granule had after the changes from number `lo` to number `hi + 1`, since the last of
 /// them may be made and its generation not raised yet. `values` are the GPIs of the granule after
-/// 0, 1, 2 .. changes of the region, and `first` is its generation before any change.
+/// 0, 1, 2 .. changes of the region, and `first` is its generation before any change. `lo` is at
+/// least `first`, and `hi` at most the last generation. Generations are in the place of the
+/// invalidation of cached walks (DDI 0487, `TLBI PAALLOS` and `RPALOS`).
 pub fn saw(values: &[Gpi], first: u64, lo: u64, hi: u64, gpi: Gpi) -> bool
     requires low { first ≤ lo }
     requires high { hi ≤ generation_last }
