@@ -87,9 +87,9 @@ pub fn values_after(
     Ok(values)
 }
 
-/// The law of these values: the one after so many changes is the GPI that the change with that
-/// number gave in the history. So `saw` of them says whether an access between two generations saw
-/// a GPI there.
+/// The law of these values: the one after `n` changes is the GPI that change number `first + n`
+/// gave in the history. So `saw` of them says whether an access between two generations saw a GPI
+/// there.
 pub fn values_mean_their_history()
     ensures each { (map : List Gpi) (first bytes granule : ℕ) (z : Size) (gpi : Gpi)
         (h : List Entry) (changes : ℕ) (value : Gpi) → gpi_after map [] granule ≡ Some gpi
