@@ -50,7 +50,7 @@ count_first bytes z granule b e h is = sum_by-cons (λ x. cond (is_change_around
 
 -- ---- all entries
 
--- after some first entries with so many changes of the region, the granule has this GPI
+-- after some first entries with this number of changes of the region, the granule has this GPI
 record HadIn (bytes : ℕ) (z : Size) (granule : ℕ) (s : State) (changes : ℕ) (gpi : Gpi) (h : List Entry) : Type 0 where
   before : List Entry
   after : List Entry

@@ -1,5 +1,6 @@
 //! Histories of a plain map from granule to GPI: what callers ask and are answered, the entries
-//! that are of it, which entries are legal in which state, and a replay that tests them one by one.
+//! that are of it, which entries are legal in which state, a replay that tests them one by one, and
+//! what accesses see between two generations.
 #![tactic(auto)]
 
 mod call;

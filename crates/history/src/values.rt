@@ -15,7 +15,9 @@ use std::alloc::{AllocError, Global};
 /// Whether an access between the generations `lo` and `hi` of a region saw this GPI: one of those
 /// that its granule had after the changes from number `lo` to number `hi + 1`, since the last of
 /// them may be made and its generation not raised yet. `values` are the GPIs of the granule after
-/// 0, 1, 2 .. changes of the region, and `first` is its generation before any change.
+/// 0, 1, 2 .. changes of the region, and `first` is its generation before any change. `lo` is at
+/// least `first`, and `hi` at most the last generation. Generations are in the place of the
+/// invalidation of cached walks (DDI 0487, `TLBI PAALLOS` and `RPALOS`).
 pub fn saw(values: &[Gpi], first: u64, lo: u64, hi: u64, gpi: Gpi) -> bool
     requires low { first ≤ lo }
     requires high { hi ≤ generation_last }
@@ -85,9 +87,9 @@ pub fn values_after(
     Ok(values)
 }
 
-/// The law of these values: the one after so many changes is the GPI that the change with that
-/// number gave in the history. So `saw` of them says whether an access between two generations saw
-/// a GPI there.
+/// The law of these values: the one after `n` changes is the GPI that change number `first + n`
+/// gave in the history. So `saw` of them says whether an access between two generations saw a GPI
+/// there.
 pub fn values_mean_their_history()
     ensures each { (map : List Gpi) (first bytes granule : ℕ) (z : Size) (gpi : Gpi)
         (h : List Entry) (changes : ℕ) (value : Gpi) → gpi_after map [] granule ≡ Some gpi
