@@ -10,6 +10,7 @@ use Rattle.history.specs.declared.entry.Entry.{Entry}
 use Rattle.history.specs.Events.{CallEvent}
 use Rattle.processor.specs.InnerProgress.{Stage}
 use Rattle.processor.specs.InnerProgress as stage
+pub use Rattle.processor.specs.InnerCpus.{duty_at}
 use Rattle.processor.specs.InnerCpus.{CpuData, IsCpu, IsReadable, task_of, fresh, next_of, took_of}
 use Rattle.processor.specs.InnerEntries.{made_at, own_entries}
 use Rattle.processor.specs.InnerScript.{HasWalked}
@@ -41,10 +42,6 @@ abbrev pub cpu_may_take : CpuData → ℕ → Type 0
 cpu_may_take q old = IsReadable q.stage old
 
 -- ---- its duty word: 1 between the first and the last act of an access
-
-abbrev pub duty_at : Stage → ℕ
-duty_at stage.Starting = 0
-duty_at s = 1
 
 abbrev pub cpu_duty : CpuData → ℕ
 cpu_duty q = duty_at q.stage
