@@ -1,14 +1,12 @@
 -- The acts of a processor: the stores of its duty word, the loads of generations, and the load of the L1 word.
-use Rattle.std.proofs.Common.{◌≡◌, ℕ, zero, suc, ◌+◌, ◌/◌, ◌%◌, ◌<◌, ◌⊎◌, ◌++◌, ◌∷◌, [], List, map, true, false, Option, Some, None, length, set, refl, sym, ap, ◌∙◌, subst, arith, inl, inr, append-nil}
+use Rattle.std.proofs.Common.{◌≡◌, ℕ, zero, suc, ◌+◌, ◌/◌, ◌<◌, ◌⊎◌, ◌++◌, ◌∷◌, [], List, map, true, false, Option, Some, None, length, set, refl, sym, ap, ◌∙◌, subst, arith, inl, inr, append-nil}
 use Rattle.std.specs.Prelude.{slice_get, slice_index, is_some}
 use Rattle.std.specs.Option.{option_map}
 use Rattle.std.proofs.lemmas.List.{set-get_or, get_or-set_same}
-use Rattle.core_machine.proofs.Names.{Gpi, granule_bytes, canonical_word, word_gpi, GeometryData, WordName, Duty, place_of, l0_words, l1_index, l1_place_of, lock_bit, apart_by, Whole, Task, Answer, Entry, Act, place_in, after_act, answer_of, Generations, HoldsIn, Scene, state_in, map_in, scene_after, Caller, CpuData, IsCpu, IsMade, holder_by, number_by, IsCounted}
-use Rattle.core_machine.proofs.Names.gpi
+use Rattle.core_machine.proofs.Names.{Gpi, canonical_word, word_gpi, GeometryData, WordName, Duty, place_of, l0_words, l1_index, l1_place_of, apart_by, Task, Answer, Entry, Act, place_in, after_act, answer_of, Generations, HoldsIn, Scene, map_in, scene_after, CpuData, IsCpu, IsMade, holder_by, IsCounted}
 use Rattle.core_machine.proofs.Names.size
 use Rattle.core_machine.proofs.Names.task
 use Rattle.core_machine.proofs.Names.answer
-use Rattle.core_machine.proofs.Names.entry
 use Rattle.core_machine.proofs.Names.caller
 use Rattle.core_machine.proofs.Names.act
 use Rattle.gpi_values.specs.declared.gpi.Space.{Space}
@@ -21,7 +19,7 @@ use Rattle.invalidate.specs.Generations.{gen_load_of}
 use Rattle.history.specs.Legality.{is_seen}
 use Rattle.history.specs.Events.{CallEvent}
 use Rattle.processor.specs.declared.walk.Walk.{Walk}
-use Rattle.processor.specs.Accesses.{walk_with, walk_of, walk_answer, looked_entry}
+use Rattle.processor.specs.Accesses.{walk_with, walk_answer, looked_entry}
 use Rattle.processor.specs.InnerProgress.{Stage, act_at, after_word, no_generations}
 use Rattle.processor.specs.InnerProgress as stage
 use Rattle.processor.specs.InnerCpus.{IsReadable, after_answer, task_of, goes_to, next_at, next_of, took_at, took_of}
@@ -31,11 +29,11 @@ use Rattle.processor.proofs.CpuLemmas.{access_at, some_mapped, took_is_cpu, took
 use Rattle.processor.proofs.EntryLemmas.{step_entries}
 use Rattle.processor.proofs.ScriptLemmas.{step_walks}
 use Rattle.core_machine.specs.InnerCpuCaller.{duty_at}
-use Rattle.core_machine.proofs.AddressLemmas.{index_at, granule_within, word_by_granule, word_readable}
+use Rattle.core_machine.proofs.AddressLemmas.{index_at, word_by_granule, word_readable}
 use Rattle.core_machine.proofs.CallerLemmas.{made_at_place}
 use Rattle.core_machine.proofs.ActLemmas.{canonical_gives, map_gives}
 use Rattle.core_machine.proofs.StepLemmas.{aside_keeps, step_keeps, tables_whole}
-use Rattle.core_machine.proofs.WordLemmas.{Writes, is_generation, is_level1, is_line, is_lock, locks_left, generations_left, writes_none, writes_one, plain_apart}
+use Rattle.core_machine.proofs.WordLemmas.{Writes, is_generation, is_level1, is_line, is_lock, locks_left, writes_none, writes_one}
 
 -- ---- answers
 

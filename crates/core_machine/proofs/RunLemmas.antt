@@ -1,5 +1,5 @@
 -- What a run leaves: its trace, and what answers and words are for the trace's history.
-use Rattle.std.proofs.Common.{◌≡◌, ◌≢◌, ℕ, zero, suc, ◌+◌, ◌*◌, ◌<◌, ◌≤◌, not, ◌⊎◌, ◌∷◌, [], List, true, false, map, length, Option, Some, None, refl, sym, ap, ◌∙◌, subst, arith, inl, inr}
+use Rattle.std.proofs.Common.{◌≡◌, ℕ, zero, suc, ◌+◌, ◌*◌, ◌<◌, ◌≤◌, not, ◌⊎◌, ◌∷◌, [], List, true, false, map, length, Option, Some, None, refl, sym, ap, ◌∙◌, subst, arith, inl, inr}
 use Rattle.std.specs.Prelude.{slice_get, slice_index, is_some, Result, Ok, Err, IfOk}
 use Rattle.history.specs.declared.outcome.Outcome.{Outcome}
 use Rattle.std.specs.List.{All, count_by}
@@ -14,7 +14,6 @@ use Rattle.history.specs.Calls.{task_at}
 use Rattle.delegate_ops.specs.Deciding.{HasCause}
 use Rattle.delegate_ops.specs.InnerAgents.{has_ended}
 use Rattle.delegate_ops.specs.Script.{Follows}
-use Rattle.delegate_ops.proofs.ScriptLemmas.{some_mapped}
 use Rattle.core_machine.specs.InnerPlay.{outcome_of, played_trace}
 use Rattle.core_machine.proofs.ListLemmas.{some_or_none, one, get_front, count_cons, count_none}
 use Rattle.core_machine.proofs.LockLemmas.{holder_bit}

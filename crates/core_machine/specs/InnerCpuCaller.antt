@@ -8,8 +8,6 @@ use Rattle.table_meaning.specs.Equation.{Holder, Whole}
 use Rattle.history.specs.declared.call.Answer.{Answer}
 use Rattle.history.specs.declared.entry.Entry.{Entry}
 use Rattle.history.specs.Events.{CallEvent}
-use Rattle.processor.specs.InnerProgress.{Stage}
-use Rattle.processor.specs.InnerProgress as stage
 pub use Rattle.processor.specs.InnerCpus.{duty_at}
 use Rattle.processor.specs.InnerCpus.{CpuData, IsCpu, IsReadable, task_of, fresh, next_of, took_of}
 use Rattle.processor.specs.InnerEntries.{made_at, own_entries}
