@@ -1,6 +1,6 @@
 -- The entries of accesses: each is allowed by its task and its answer, and is on no lock block.
-use Rattle.std.proofs.Common.{◌≡◌, ℕ, suc, ◌+◌, ◌<◌, ◌∷◌, [], ◌/◌, List, Bool, true, false, Option, Some, None, length, take, refl, sym, ◌∙◌, subst, arith, inl, inr}
-use Rattle.std.specs.Prelude.{slice_get}
+use Rattle.std.proofs.Common.{◌≡◌, ℕ, zero, suc, ◌+◌, ◌<◌, ◌∷◌, [], ◌/◌, List, Bool, true, false, Option, Some, None, length, take, refl, sym, ◌∙◌, subst, arith, inl, inr}
+use Rattle.std.specs.Prelude.{slice_get, MatchOption}
 use Rattle.std.specs.List.{All, list_any}
 use Rattle.std.proofs.lemmas.Bool.{cases_Bool}
 use Rattle.std.proofs.lemmas.List.Elements.{All-nil, All-append, All-weaker}
@@ -16,12 +16,13 @@ use Rattle.gpt_descriptors.specs.Places.{block_gpi_of}
 use Rattle.history.specs.Legality.{is_seen, is_still}
 use Rattle.delegate_ops.specs.Deciding.{is_look}
 use Rattle.processor.specs.declared.walk.Walk.{Walk}
-use Rattle.processor.specs.Accesses.{IsAccess, walk_answer}
+use Rattle.processor.specs.Accesses.{IsAccess, block_answer, walk_answer}
 use Rattle.processor.specs.InnerProgress.{Stage}
 use Rattle.processor.specs.InnerEntries.{entries_at, own_entries, walk_at, walk_entries}
 use Rattle.processor.specs.InnerCpus.{task_of}
 use Rattle.processor.specs.InnerScript.{HasWalked}
 use Rattle.processor.specs.Script.{AreCallEvents, IsCall, IsLook}
+use Rattle.core_machine.specs.Facts.{IsAccessAnswer, is_walked}
 use Rattle.core_machine.proofs.AddressLemmas.{granule_within}
 use Rattle.core_machine.proofs.CpuActs.{answers_seen}
 use Rattle.core_machine.proofs.EntryLemmas.{IsOwnEntry}
@@ -36,6 +37,24 @@ access_there q k t is at = subst (IsAccess q.geometry) (get_or_from_slice_get q.
 pub access_looks : (g : GeometryData) (t : Task) → IsAccess g t → is_look t ≡ true
 access_looks g (task.Look pa space) access = refl
 access_looks g t access = absurd access
+
+-- ---- their answers
+
+look_answer : (g : GeometryData) (p c n pa : ℕ) (space : Space) (o : Option Gpi) (given : Answer) (events : List CallEvent) → IsLook g p c n pa space o given events
+    → MatchOption o (is_walked given ≡ true) (λ gpi. given ≡ block_answer space gpi)
+look_answer g p c n pa space (Some gpi) given events look = look.0
+look_answer g p c n pa space None given events look = subst (λ (a : Answer). is_walked a ≡ true) (sym look.is) refl
+
+-- an answered access is answered by its block, or by a walk where there is none
+pub access_answer : (g : GeometryData) (p c n k : ℕ) (tasks : List Task) (answers : List Answer) (events : List CallEvent) (pa : ℕ) (space : Space) (given : Answer) → AreCallEvents g p c n tasks answers events
+    → slice_get tasks k ≡ Some (task.Look pa space) → slice_get answers k ≡ Some given → IsAccessAnswer g pa space given
+access_answer g p c n k tasks [] events pa space given are asked answered = absurd cc
+access_answer g p c n k [] (a ∷ answers) events pa space given are asked answered = absurd are
+access_answer g p c n zero (t ∷ tasks) (a ∷ answers) events pa space given are asked answered =
+    let same : t ≡ task.Look pa space = cc in
+    let is : a ≡ given = cc in
+    look_answer g p c n pa space (block_gpi_of g pa) given are.0 (subst (λ (u : Task). IsCall g p c n u given are.0) same (subst (λ (b : Answer). IsCall g p c n t b are.0) is are.3))
+access_answer g p c n (suc k) (t ∷ tasks) (a ∷ answers) events pa space given are asked answered = access_answer g p c (n + 1) k tasks answers are.1 pa space given are.4 asked answered
 
 -- ---- the entries of one access
 

@@ -26,7 +26,8 @@ use Rattle.core_machine.proofs.AddressLemmas.{granule_within, index_at, lock_of,
 use Rattle.core_machine.proofs.ListLemmas.{one, get_append, get_front, get_last}
 use Rattle.core_machine.proofs.CallerLemmas.{Owner, agent_has, due_alone, holder_there, others_closed, others_whole}
 use Rattle.core_machine.proofs.OpenedLemmas.{closed_here}
-use Rattle.core_machine.proofs.StepLemmas.{list_of, added_to, map_next, map_elsewhere, opened_with, IsEntryOf, no_duty, step_keeps, counted_grown}
+use Rattle.core_machine.proofs.StampLemmas.{Rises}
+use Rattle.core_machine.proofs.StepLemmas.{list_of, added_to, map_next, map_elsewhere, opened_with, IsEntryOf, no_duty, rises_left, step_keeps, counted_grown}
 use Rattle.core_machine.proofs.WordLemmas.{Writes, IsApart, is_generation, is_idle, is_level1, is_lock, generations_left, locks_left, plain_apart, words_left, writes_none}
 
 -- ---- the caller that acts
@@ -184,6 +185,7 @@ pub record Goes (s : Scene) (c : ℕ) (a : AgentData) (t : Task) (st next : Stag
   pub block : (m : ℕ) → lock_of_task a t ≢ m → IsApart a.geometry m n
   pub no_lock : is_lock n ≡ false
   pub idle : is_idle n ≡ false
+  pub rises : Rises a.geometry s.words after
   pub entry : IfSome o (IsOwn s c a t)
   pub words : AreWords a.geometry (map_next s o) (apart_by a.geometry.setup (holders_of (set s.callers c (caller.Agent (goes_to (at_stage a st) next))))) after
   pub opened : open_at a.geometry next (Some t) ≡ opened_with o (open_at a.geometry st (Some t))
@@ -263,6 +265,9 @@ goes_keeps {s = s} {c = c} {a = a} {t = t} {st = st} acting next n after o goes 
       writes = goes.writes;
       apart = λ m free. goes.block m (λ same. absurd (let both : true ≡ false = sym (owner_of acting goes.inside).has ∙ ap (λ (k : ℕ). holds k me) same ∙ free in cc));
       duty = no_duty refl refl goes.idle;
+      rises = goes.rises;
+      loads = tt;
+      stamps = tt;
       entry = entry;
       tables = record { level1 = goes.words; blocks = blocks_next acting o goes.entry };
       opened = rw acting.under_way goes.opened;
@@ -310,6 +315,7 @@ goes_quietly {s = s} {c = c} {a = a} {t = t} {st = st} acting next n after alike
       block = λ m other. plain_apart a.geometry m n no_generation;
       no_lock = no_lock;
       idle = idle;
+      rises = rises_left writes no_generation;
       entry = tt;
       words = words;
       opened = alike.opened;

@@ -18,6 +18,7 @@ use Rattle.delegate_ops.specs.InnerAgents.{kept_changed}
 use Rattle.delegate_ops.proofs.AgentLemmas.{at_stage}
 use Rattle.core_machine.proofs.ListLemmas.{one}
 use Rattle.core_machine.proofs.WordLemmas.{writes_one, generations_left}
+use Rattle.core_machine.proofs.StepLemmas.{rises_left}
 use Rattle.core_machine.proofs.ActLemmas.{Acting, inside_of, granule_closed, seen_of, goes_keeps, holders_of, map_has, own_index, holder_at, alone_there, tables_after}
 use Rattle.core_machine.proofs.StepLemmas.{map_elsewhere}
 use Rattle.core_machine.proofs.LockActs.{ActKeeps}
@@ -72,6 +73,7 @@ change_holds {s = s} {c = c} {a = a} {t = t} i ch k acting index =
       block = λ m away. tt;
       no_lock = refl;
       idle = refl;
+      rises = rises_left writes refl;
       entry = record { caller = refl; call = refl; granule = refl; allowed = (map_has acting ∙ ap Some (sym sees.gives), granule_closed acting refl refl) };
       words = tables_after acting next l after are;
       opened = refl;

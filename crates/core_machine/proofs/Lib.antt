@@ -8,6 +8,7 @@ pub mod ToldLemmas
 pub mod OpenedLemmas
 pub mod AloneLemmas
 pub mod CountedLemmas
+pub mod StampLemmas
 pub mod StepLemmas
 pub mod ActLemmas
 pub mod LockActs

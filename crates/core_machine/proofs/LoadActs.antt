@@ -31,6 +31,7 @@ use Rattle.core_machine.proofs.ActLemmas.{canonical_gives, reads_own, map_has, h
 use Rattle.core_machine.proofs.WordLemmas.{writes_none}
 use Rattle.core_machine.proofs.CountedLemmas.{worn_counted}
 use Rattle.core_machine.proofs.LockActs.{ActKeeps}
+use Rattle.core_machine.proofs.StepLemmas.{rises_left}
 use Rattle.delegate_ops.specs.InnerEntries.{known_entries}
 use Rattle.core_machine.specs.InnerAgentCaller.{SeesGenerations}
 use Rattle.core_machine.proofs.AddressLemmas.{word_readable}
@@ -64,6 +65,7 @@ refuse {s = s} {c = c} {a = a} {t = t} {st = st} acting given inside whole made 
       block = λ m other. tt;
       no_lock = refl;
       idle = refl;
+      rises = rises_left (writes_none a.geometry s.words) refl;
       entry = record { caller = refl; call = refl; granule = refl; allowed = (map_has acting, granule_closed acting inside open_none) };
       words = tables_stay acting inside (stage.Releasing given) (sym whole) (writes_none a.geometry s.words) refl;
       opened = sym open_none;

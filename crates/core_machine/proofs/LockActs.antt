@@ -15,6 +15,7 @@ use Rattle.core_machine.specs.InnerInvariant.{IsAlone}
 use Rattle.core_machine.proofs.ListLemmas.{one, get_append}
 use Rattle.core_machine.proofs.LockLemmas.{holder_bit, take_free, take_held, release_held}
 use Rattle.core_machine.proofs.WordLemmas.{writes_one}
+use Rattle.core_machine.proofs.StampLemmas.{no_loads, no_stamps}
 use Rattle.core_machine.proofs.StepLemmas.{aside_keeps, no_duty}
 use Rattle.core_machine.proofs.ToldLemmas.{answered_call, idle_is}
 use Rattle.core_machine.proofs.AloneLemmas.{alone_starts, own_numbers, no_own}
@@ -43,6 +44,8 @@ lock_keeps {s = s} {c = c} {a = a} {t = t} {st = st} acting v x made none opened
       no_level1 = refl;
       no_generation = refl;
       duty = no_duty refl none refl;
+      loads = no_loads _ x none;
+      stamps = no_stamps s.first s.history c x none;
       before = before;
       whole = whole;
       opened = opened;

@@ -34,11 +34,12 @@ use Rattle.processor.proofs.EntryLemmas.{fresh_quiet}
 use Rattle.processor.proofs.ScriptLemmas.{fresh_walked as cpu_fresh_walked}
 use Rattle.core_machine.proofs.AloneLemmas.{undisturbed_empty}
 use Rattle.core_machine.proofs.CpuActs.{cpu_counted}
+use Rattle.core_machine.proofs.StampLemmas.{idle_unstamped, starting_loads, starting_stamps}
 use Rattle.core_machine.proofs.StepLemmas.{number_low}
 use Rattle.core_machine.proofs.ListLemmas.{count_none}
 use Rattle.core_machine.proofs.LockActs.{idle_counted}
 use Rattle.core_machine.proofs.ToldLemmas.{idle_entries}
-use Rattle.core_machine.specs.InnerCallers.{own_of, IsFresh}
+use Rattle.core_machine.specs.InnerCallers.{own_of, HasLoaded, HasOwnStamps, IsFresh}
 use Rattle.core_machine.specs.InnerInvariant.{table_word, AreTables}
 use Rattle.core_machine.specs.Facts.{map_after}
 use Rattle.core_machine.specs.InnerOpening.{AreStarting}
@@ -129,6 +130,8 @@ pub record IsAtRest (g : GeometryData) (x : Caller) : Type 0 where
   pub own : (c : ℕ) → own_of c x ≡ []
   pub counted : (c k : ℕ) (u : Task) (given : Answer) → slice_get (known_answers x) k ≡ Some given → IsCounted g c k u given []
   pub off : duty_by x ≡ 0
+  pub loads : (words : List ℕ) → HasLoaded words x
+  pub stamps : (map : List Gpi) (c : ℕ) → HasOwnStamps map [] c x
 
 fresh_rests : (g : GeometryData) (x : Caller) → IsFresh g x → IsAtRest g x
 fresh_rests g (caller.Agent a) is =
@@ -143,6 +146,8 @@ fresh_rests g (caller.Agent a) is =
       own = λ c. append-nil (answered_entries (granule_bytes g.setup) c 0 a.tasks (idle_answers g a.tasks)) ∙ idle_entries g (granule_bytes g.setup) c 0 a.tasks;
       counted = λ c k u given answered. idle_counted g c k k a.tasks u given [] (subst (λ (answers : List Answer). slice_get answers k ≡ Some given) (append-nil (idle_answers g a.tasks)) answered);
       off = refl;
+      loads = λ words. tt;
+      stamps = λ map c. tt;
     })
 fresh_rests g (caller.Cpu q) is =
     let p : ℕ = q.number in
@@ -158,6 +163,11 @@ fresh_rests g (caller.Cpu q) is =
       own = λ c. fresh_quiet g p q.tasks c;
       counted = λ c k u given answered. cpu_counted g c k u (cpus.fresh g p q.tasks) given [] made answered;
       off = refl;
+      loads = λ words. starting_loads g words (cpus.task_of (cpus.fresh g p q.tasks));
+      stamps = λ map c. (
+        λ k t given asked answered. idle_unstamped g map g.setup.first (granule_bytes g.setup) c k k q.tasks t given [] answered,
+        starting_stamps g map c (length (cpus.idle_answers g q.tasks)) (cpus.task_of (cpus.fresh g p q.tasks)) [],
+      );
     })
 
 -- each caller of a fresh list
@@ -206,4 +216,7 @@ opening_invariant g first callers words fresh_all differ starting =
       duties = λ c p x at is. let rest = rests c x at in starting.duty p (number_low g x p rest.made is) ∙ sym rest.off;
       numbers = differ;
       lines = starting.lines;
+      least = λ y region within. let first = starting.generations y region within in omega (arith, first);
+      loads = λ c x at. (rests c x at).loads words;
+      stamps = λ c x at. (rests c x at).stamps first c;
     }

@@ -27,6 +27,7 @@ use Rattle.delegate_ops.specs.Changing.{from_of, to_of, raised_at}
 use Rattle.delegate_ops.specs.InnerAgents.{IsChangeOf, number_of, kept_raised, merging_stage, merged_stage, raised_stage}
 use Rattle.delegate_ops.proofs.AgentLemmas.{at_stage}
 use Rattle.core_machine.proofs.ListLemmas.{one}
+use Rattle.core_machine.proofs.StampLemmas.{rises_one}
 use Rattle.core_machine.proofs.ActLemmas.{IsOwn, holders_of, holder_at, alone_there, tables_after, tables_stay, Acting, inside_of, generation_below, closed_of, counts_of, seen_of, goes_keeps}
 use Rattle.core_machine.proofs.WordLemmas.{Writes, writes_one, words_left, generation_left}
 use Rattle.core_machine.proofs.OpenedLemmas.{open_here}
@@ -162,6 +163,9 @@ raise_goes {s = s} {a = a} {t = t} ch z k next o acting raises =
       block = λ m other same. other (sym (lock_by_region a.geometry.setup z (address_of t / size_bytes z) (address_of t) refl) ∙ same);
       no_lock = refl;
       idle = refl;
+      rises = λ y region within.
+          rises_one s.words (gen_place_of a.geometry z (address_of t)) (place_of a.geometry (Generation y region)) (generation_in z k.generations + 1) (generation_below acting z)
+          (let old = (seen_of acting).generations z in omega (arith, old));
       entry = raises.entry;
       words = raises.words;
       opened = raises.opened;

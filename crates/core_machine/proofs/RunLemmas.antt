@@ -1,14 +1,15 @@
 -- What a run leaves: its trace, and what answers and words are for the trace's history.
-use Rattle.std.proofs.Common.{◌≡◌, ℕ, zero, suc, ◌+◌, ◌*◌, ◌<◌, ◌≤◌, not, ◌⊎◌, ◌∷◌, [], List, true, false, map, length, Option, Some, None, refl, sym, ap, ◌∙◌, subst, arith, inl, inr}
+use Rattle.std.proofs.Common.{◌≡◌, ℕ, zero, suc, ◌+◌, ◌*◌, ◌<◌, ◌≤◌, not, ◌⊎◌, ◌∷◌, [], List, true, false, map, length, Option, Some, None, get_or, refl, sym, ap, ◌∙◌, subst, arith, inl, inr}
 use Rattle.std.specs.Prelude.{slice_get, slice_index, is_some, Result, Ok, Err, IfOk}
 use Rattle.history.specs.declared.outcome.Outcome.{Outcome}
 use Rattle.std.specs.List.{All, count_by}
 use Rattle.std.specs.Option.{option_map}
 use Rattle.std.proofs.lemmas.Bool.{cases_Bool}
 use Rattle.std.proofs.lemmas.List.{length-map}
-use Rattle.std.proofs.lemmas.Option.{slice_get_cases, slice_get-map, slice_get_past, slice_get_within}
-use Rattle.core_machine.proofs.Names.{Size, granule_bytes, size_bytes, GeometryData, blocks_in_region, word_count, Duty, place_of, CallEvent, CpuData, IsCpu, Act, lock_number, lock_bit, Scenario, Script, Task, Answer, answer_at, count_of, AgentData, IsAgent, next_of, Caller, caller_next, caller_answers, known_answers, duty_by, number_by, holds, is_due, caller_tasks, IsMade, HoldsIn, InvariantFor, scene_of, caller_of, callers_from, cpu_number, opening_of, played, IsCounted, generation_word, TraceEvent, history_of, first_map, geometry_of, task_of_ask, task_of_look, turns_in, Scene, is_inside, coming_at}
+use Rattle.std.proofs.lemmas.Option.{slice_get_cases, slice_get-map, slice_get_past, slice_get_within, get_or_from_slice_get}
+use Rattle.core_machine.proofs.Names.{Gpi, Entry, Size, granule_bytes, size_bytes, GeometryData, blocks_in_region, word_count, Duty, place_of, CallEvent, CpuData, IsCpu, Act, lock_number, lock_bit, Scenario, Script, Task, Answer, answer_at, count_of, AgentData, IsAgent, next_of, Caller, caller_next, caller_answers, known_answers, duty_by, number_by, holds, is_due, caller_tasks, IsMade, HoldsIn, InvariantFor, scene_of, caller_of, callers_from, cpu_number, opening_of, played, IsCounted, generation_word, TraceEvent, history_of, first_map, geometry_of, task_of_ask, task_of_look, turns_in, Scene, is_inside, coming_at}
 use Rattle.core_machine.proofs.Names.script
+use Rattle.core_machine.proofs.Names.task
 use Rattle.core_machine.proofs.Names.caller
 use Rattle.history.specs.Calls.{task_at}
 use Rattle.delegate_ops.specs.Deciding.{HasCause}
@@ -26,16 +27,19 @@ use Rattle.delegate_ops.proofs.FollowLemmas.{walked_follows, walked_ended}
 use Rattle.delegate_ops.proofs.NextLemmas.{next_there}
 use Rattle.core_machine.proofs.LegalLemmas.{HaveTasks, AreMade, IsWalked, made_legal, made_calls}
 use Rattle.core_machine.proofs.NumberLemmas.{callers_at, callers_count, opening_numbered, played_numbered, played_role, role_of, same_number, same_tasks, script_tasks}
-use Rattle.core_machine.proofs.AccessLemmas.{access_looks, access_there}
+use Rattle.core_machine.proofs.AccessLemmas.{access_answer, access_looks, access_there}
 use Rattle.core_machine.specs.InnerCpuCaller.{duty_at}
+use Rattle.core_machine.specs.InnerCallers.{HasOwnStamps}
+use Rattle.history.specs.Stamps.{AreStamped, HasStamps, IsStampedCall}
 use Rattle.delegate_ops.specs.Deciding.{is_look}
+use Rattle.gpi_values.specs.declared.gpi.Space.{Space}
 use Rattle.processor.specs.Script as cpus
 use Rattle.processor.specs.InnerCpus as cpu
 use Rattle.processor.specs.InnerCpus.{IsAt}
 use Rattle.processor.specs.InnerProgress as progress
-use Rattle.processor.proofs.CpuLemmas.{next_there as cpu_next_there}
+use Rattle.processor.proofs.CpuLemmas.{some_mapped, next_there as cpu_next_there}
 use Rattle.processor.proofs.FollowLemmas.{cpu_ended, walked_follows as cpu_walked_follows}
-use Rattle.core_machine.specs.Facts.{FitsHistory}
+use Rattle.core_machine.specs.Facts.{FitsHistory, IsAccessAnswer}
 use Rattle.core_machine.specs.Trace.{events_of, FollowsScript, HasEnded, IsTrace, answers_by}
 use Rattle.core_machine.specs.Scenarios.{tasks_of, first_words}
 use Rattle.core_machine.specs.Run.{IsRun}
@@ -152,6 +156,47 @@ causes_told g callers tasks have made c k t given asked answered transition =
     let task : slice_get (caller_tasks own.0) k ≡ Some t = rw (have c own.0 own.1) at asked in
     caller_cause g c k own.0 t given (made c own.0 own.1) task own.2 transition
 
+-- ---- accesses
+
+caller_look : (g : GeometryData) (c k : ℕ) (x : Caller) (pa : ℕ) (space : Space) (given : Answer) → IsWalked g c x → slice_get (caller_tasks x) k ≡ Some (task.Look pa space) → slice_get (caller_answers x) k ≡ Some given → IsAccessAnswer g pa space given
+caller_look g c k (caller.Agent a) pa space given is asked answered =
+    absurd
+    (let none : is_look (get_or a.tasks k (task.Look pa space)) ≡ false = is.1.no_looks k (task.Look pa space) (slice_get_within a.tasks k (task.Look pa space) asked) in
+    let both : true ≡ false = sym (ap is_look (get_or_from_slice_get a.tasks k (task.Look pa space) (task.Look pa space) asked)) ∙ none in cc)
+caller_look g c k (caller.Cpu q) pa space given is asked answered =
+    subst (λ (v : GeometryData). IsAccessAnswer v pa space given) is.0 (access_answer q.geometry q.number c 0 k q.tasks q.answers is.3.calls pa space given is.3.answered asked answered)
+
+looks_told : (g : GeometryData) (callers : List Caller) (tasks : List (List Task)) → HaveTasks tasks callers → AreMade g callers → (c k pa : ℕ) (space : Space) (given : Answer) → task_at tasks c k ≡ Some (task.Look pa space)
+    → answer_at (map caller_answers callers) c k ≡ Some given → IsAccessAnswer g pa space given
+looks_told g callers tasks have made c k pa space given asked answered =
+    let own = answered_at callers c k given answered in
+    let task : slice_get (caller_tasks own.0) k ≡ Some (task.Look pa space) = rw (have c own.0 own.1) at asked in
+    caller_look g c k own.0 pa space given (made c own.0 own.1) task own.2
+
+agent_call_stamped : (map : List Gpi) (first bytes c k : ℕ) (t : Task) (given : Answer) (h : List Entry) → is_look t ≡ false → IsStampedCall map first bytes c k t given h
+agent_call_stamped map first bytes c k (task.Look pa space) given h transition = absurd cc
+agent_call_stamped map first bytes c k (task.Delegate pa source) given h transition = tt
+agent_call_stamped map first bytes c k (task.Undelegate pa source) given h transition = tt
+agent_call_stamped map first bytes c k task.Unknown given h transition = tt
+
+caller_stamped : (g : GeometryData) (map : List Gpi) (h : List Entry) (c : ℕ) (x : Caller) → IsWalked g c x → HasOwnStamps map h c x → AreStamped map g.setup.first (granule_bytes g.setup) c (caller_tasks x) (caller_answers x) h
+caller_stamped g map h c (caller.Agent a) is stamps = λ k t given asked answered.
+    agent_call_stamped map g.setup.first (granule_bytes g.setup) c k t given h
+    (ap is_look (sym (get_or_from_slice_get a.tasks k t t asked)) ∙ is.1.no_looks k t (slice_get_within a.tasks k t asked))
+caller_stamped g map h c (caller.Cpu q) is stamps =
+    subst (λ (v : GeometryData). AreStamped map v.setup.first (granule_bytes v.setup) c q.tasks q.answers h) is.0 stamps.0
+
+-- the stamps of all accesses
+stamps_told : (g : GeometryData) (s : Scene) (tasks : List (List Task)) → HoldsIn g s → HaveTasks tasks s.callers → AreMade g s.callers
+    → HasStamps s.first g.setup.first (granule_bytes g.setup) tasks (map caller_answers s.callers) s.history
+stamps_told g s tasks stands have made c own given asks answers =
+    let there = some_mapped caller_answers (slice_get s.callers c) given (sym (slice_get-map caller_answers s.callers c) ∙ answers) in
+    let x = there.0 in
+    let tasks_are : caller_tasks x ≡ own = (let both : Some (caller_tasks x) ≡ Some own = sym (have c x there.1) ∙ asks in cc) in
+    subst (λ (ts : List Task). AreStamped s.first g.setup.first (granule_bytes g.setup) c ts given s.history) tasks_are
+    (subst (λ (list : List Answer). AreStamped s.first g.setup.first (granule_bytes g.setup) c (caller_tasks x) list s.history) there.2
+    (caller_stamped g s.first s.history c x (made c x there.1) (stands.stamps c x there.1)))
+
 -- ---- facts over plain data
 
 pub fits_history : (g : GeometryData) (s : Scene) (tasks : List (List Task)) → HoldsIn g s → HaveTasks tasks s.callers → AreMade g s.callers → AreNumbered g s.callers → length tasks ≡ length s.callers
@@ -163,8 +208,10 @@ fits_history g s tasks stands have made numbered count =
       legal = made_legal g s.first s.callers s.history tasks stands.history have made stands.shape.granules;
       calls = made_calls g s.first s.callers s.history tasks stands.history have made count;
       causes = causes_told g s.callers tasks have made;
+      looks = looks_told g s.callers tasks have made;
       counts = counts_told g s tasks stands have;
       worn = worn_told g s tasks stands have made;
+      stamps = stamps_told g s tasks stands have made;
       undisturbed = stands.undisturbed;
       alone = alone_told g s stands made;
       tables = tables_told g s stands;

@@ -24,6 +24,8 @@ use Rattle.core_machine.proofs.AddressLemmas.{lock_of}
 use Rattle.core_machine.proofs.CallerLemmas.{held_once, made_at_place, others_closed, placed_at}
 use Rattle.core_machine.proofs.OpenedLemmas.{opened_after, opened_stays, opened_changes}
 use Rattle.core_machine.proofs.WordLemmas.{Writes, IsApart, block_left, plain_apart, is_generation, is_level1, is_idle, is_line, idle_duty, idle_line, generations_left, words_left, lines_left}
+use Rattle.core_machine.specs.InnerCallers.{HasLoaded, HasOwnStamps}
+use Rattle.core_machine.proofs.StampLemmas.{Rises, caller_loads_rise, own_stamps_grow}
 use Rattle.core_machine.proofs.ToldLemmas.{IsAdded, history_keeps}
 use Rattle.core_machine.proofs.AloneLemmas.{undisturbed_more, alone_own, alone_other}
 use Rattle.core_machine.proofs.CountedLemmas.{counted_more, count_more}
@@ -93,6 +95,10 @@ numbers_keep callers c me x at same differ d e p y z here there first second =
     let two = was_numbered callers c e me x z at same there in
     differ d e p one.0 two.0 one.1 two.1 (one.2 ∙ first) (two.2 ∙ second)
 
+-- no generation is written
+pub rises_left : {g : GeometryData} {words : List ℕ} {n : Option WordName} {after : List ℕ} → Writes g words n after → is_generation n ≡ false → Rises g words after
+rises_left writes plain y region within = let same = generations_left writes plain y region within in omega (arith, same)
+
 -- ---- a step
 
 -- Caller c, which was `me`, becomes x. It wrote this word, if it wrote one, and made this entry, if it made one.
@@ -103,6 +109,9 @@ pub record Step (g : GeometryData) (s : Scene) (c : ℕ) (me x : Caller) (n : Op
   pub writes : Writes g s.words n after
   pub apart : (m : ℕ) → holds m me ≡ false → IsApart g m n
   pub duty : MindsDuty g me x n after
+  pub rises : Rises g s.words after
+  pub loads : HasLoaded after x
+  pub stamps : HasOwnStamps s.first (s.history ++ list_of o) c x
   pub entry : IfSome o (IsEntryOf g s c me x)
   pub tables : AreTables g after (set s.callers c x) (map_next s o)
   pub opened : open_by x ≡ opened_with o (open_by me)
@@ -247,6 +256,11 @@ module _ {g : GeometryData} {s : Scene} {c : ℕ} {me x : Caller} {n : Option Wo
         duties = λ d p y there. each_set (λ (d : ℕ) (y : Caller). (p : ℕ) → number_by y ≡ Some p → slice_index after (place_of g (Duty p)) ≡ duty_by y) s.callers c x step.duty.word others_on d y there p;
         numbers = numbers_keep s.callers c me x step.at step.duty.number stands.numbers;
         lines = lines_left step.writes step.duty.line stands.lines;
+        least = λ y region within. omega (arith, stands.least y region within, step.rises y region within);
+        loads = each_set (λ (d : ℕ) (y : Caller). HasLoaded after y) s.callers c x step.loads
+            (λ d y apart there. caller_loads_rise g s.words after y (made_at_place g s d y stands there) step.rises (stands.loads d y there));
+        stamps = each_set (λ (d : ℕ) (y : Caller). HasOwnStamps s.first (h ++ list_of o) d y) s.callers c x step.stamps
+            (λ d y apart there. own_stamps_grow s.first h (list_of o) d y (stands.stamps d y there));
       }
 
 -- ---- a step without an entry that writes neither a generation nor an L1 word
@@ -274,6 +288,8 @@ pub record Aside (g : GeometryData) (s : Scene) (c : ℕ) (me x : Caller) (n : O
   pub no_level1 : is_level1 n ≡ false
   pub no_generation : is_generation n ≡ false
   pub duty : MindsDuty g me x n after
+  pub loads : HasLoaded after x
+  pub stamps : HasOwnStamps s.first s.history c x
   pub before : (holder_by me).step ≡ Whole
   pub whole : (holder_by x).step ≡ Whole
   pub opened : open_by x ≡ open_by me
@@ -293,6 +309,9 @@ aside_keeps {g = g} {s = s} {c = c} {x = x} {n = n} aside =
       writes = aside.writes;
       apart = λ m free. plain_apart g m n aside.no_generation;
       duty = aside.duty;
+      rises = rises_left aside.writes aside.no_generation;
+      loads = aside.loads;
+      stamps = own_stamps_grow s.first s.history [] c x aside.stamps;
       entry = tt;
       tables = tables_whole c x aside.stands aside.at aside.writes aside.no_level1 aside.before aside.whole;
       opened = aside.opened;

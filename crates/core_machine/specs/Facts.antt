@@ -1,26 +1,30 @@
 -- What callers leave fits a history: over plain data, with no scenario and no schedule.
-use Rattle.std.specs.Prelude.{◌≡◌, ◌⊎◌, ℕ, ◌+◌, ◌*◌, ◌<◌, Bool, true, false, ◌&&◌, ◌==◌, List, ◌∷◌, ◌++◌, length, slice_index, Option, Some, None}
+use Rattle.std.specs.Prelude.{◌≡◌, ◌⊎◌, ℕ, ◌+◌, ◌*◌, ◌<◌, Bool, true, false, not, ◌&&◌, ◌==◌, List, ◌∷◌, ◌++◌, length, slice_index, Option, Some, None, MatchOption}
 use Rattle.std.specs.List.{All, list_any}
 use Rattle.gpi_values.specs.declared.gpi.Gpi.{Gpi}
+use Rattle.gpi_values.specs.declared.gpi.Space.{Space}
 use Rattle.gpt_descriptors.specs.declared.size.Size.{Size}
 use Rattle.gpt_descriptors.specs.Sizes.{SetupData, granule_bytes, word_bytes, size_bytes}
 use Rattle.gpt_descriptors.specs.Canonical.{canonical_word}
 use Rattle.gpt_descriptors.specs.Level0.{l1_index}
-use Rattle.gpt_descriptors.specs.Places.{GeometryData, Duty, Line, place_of, l0_words, l1_words, blocks_in_region, word_count}
+use Rattle.gpt_descriptors.specs.Places.{GeometryData, Duty, Line, place_of, l0_words, l1_words, blocks_in_region, word_count, block_gpi_of}
 pub use Rattle.gpt_descriptors.specs.Places.{table_part, generation_word}
 use Rattle.table_meaning.specs.Meaning.{TablesMean, AreCanonical}
 use Rattle.bit_locks.specs.Locks.{lock_number, lock_bit}
 use Rattle.history.specs.declared.call.Task.{Task}
+use Rattle.history.specs.declared.call.Task.TheVariants as task
 use Rattle.history.specs.declared.call.Answer.{Answer}
 use Rattle.history.specs.declared.call.Answer.TheVariants as answer
 use Rattle.history.specs.declared.entry.Entry.{Entry}
 use Rattle.history.specs.declared.entry.Entry.TheVariants as entry
 use Rattle.history.specs.States.{start, state_after}
-use Rattle.history.specs.Legality.{needed}
+use Rattle.history.specs.Legality.{needed, is_still}
 use Rattle.history.specs.Calls.{task_at, answer_at, IsLegalHistory, HasCalls}
+use Rattle.history.specs.Stamps.{HasStamps}
 use Rattle.history.specs.Counts.{is_by, count_of, AreDoneCounts, IsWornCount}
 use Rattle.delegate_ops.specs.Deciding.{is_look, HasCause}
 use Rattle.delegate_ops.specs.Script.{granule_of_task}
+use Rattle.processor.specs.Accesses.{block_answer}
 use Rattle.core_machine.specs.Scenarios.{map_at}
 
 -- ---- transitions on one lock block
@@ -51,6 +55,18 @@ AreAlone s answers h =
     → answer_at answers c k ≡ None
     → is_by c k e ≡ true → is_on_block s n e ≡ true
     → All (λ x. is_on_block s n x ≡ true → is_by c k x ≡ true) after
+
+-- ---- accesses
+
+-- the answer is of a walk of an L1 table
+abbrev pub is_walked : Answer → Bool
+is_walked (answer.Seen access) = not (is_still access.via)
+is_walked given = false
+
+-- an access in an L0 block is answered by the block's GPI, any other by a walk
+abbrev pub IsAccessAnswer : GeometryData → ℕ → Space → Answer → Type 0
+IsAccessAnswer g pa space given =
+    MatchOption (block_gpi_of g pa) (is_walked given ≡ true) (λ gpi. given ≡ block_answer space gpi)
 
 -- ---- counts
 
@@ -97,9 +113,15 @@ pub record FitsHistory (g : GeometryData) (first : List Gpi) (tasks : List (List
   -- the answers of transitions by their causes, and the generations of Done and Worn
   pub causes : (c k : ℕ) (t : Task) (given : Answer) → task_at tasks c k ≡ Some t
       → answer_at answers c k ≡ Some given → is_look t ≡ false → HasCause g t given
+  -- the answers of accesses
+  pub looks : (c k pa : ℕ) (space : Space) (given : Answer)
+      → task_at tasks c k ≡ Some (task.Look pa space) → answer_at answers c k ≡ Some given
+      → IsAccessAnswer g pa space given
   pub counts : (c k : ℕ) (t : Task) (given : Answer) → task_at tasks c k ≡ Some t
       → answer_at answers c k ≡ Some given → IsCounted g c k t given h
   pub worn : AreWorn g tasks answers h
+  -- the generations of accesses
+  pub stamps : HasStamps first g.setup.first (granule_bytes g.setup) tasks answers h
   -- transitions on one lock block don't mix
   pub undisturbed : AreUndisturbed g.setup h
   pub alone : AreAlone g.setup answers h

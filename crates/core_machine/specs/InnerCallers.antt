@@ -15,7 +15,7 @@ use Rattle.delegate_ops.specs.InnerAgents.{next_of, took_of, IsReadable}
 use Rattle.core_machine.specs.declared.caller.Caller.{Caller}
 use Rattle.core_machine.specs.declared.caller.Caller.TheVariants as caller
 use Rattle.core_machine.specs.InnerAgentCaller.{IsAgentOf, agent_made, agent_fresh, agent_left, agent_known, agent_makes, agent_own, agent_holds, agent_opens, agent_owes, agent_holder, agent_sees}
-use Rattle.core_machine.specs.InnerCpuCaller.{IsCpuOf, cpu_made, cpu_fresh, cpu_may_take, cpu_duty, cpu_left, cpu_next, cpu_took, cpu_known, cpu_makes, cpu_own, cpu_holds, cpu_opens, cpu_owes, cpu_holder, cpu_sees}
+use Rattle.core_machine.specs.InnerCpuCaller.{IsCpuOf, cpu_made, cpu_fresh, cpu_may_take, cpu_duty, cpu_left, cpu_loads, cpu_stamps, cpu_next, cpu_took, cpu_known, cpu_makes, cpu_own, cpu_holds, cpu_opens, cpu_owes, cpu_holder, cpu_sees}
 
 -- ---- how a caller was made
 
@@ -87,6 +87,16 @@ number_by (caller.Cpu q) = Some q.number
 abbrev pub duty_by : Caller → ℕ
 duty_by (caller.Agent a) = 0
 duty_by (caller.Cpu q) = cpu_duty q
+
+-- the generations that it has loaded
+abbrev pub HasLoaded : List ℕ → Caller → Type 0
+HasLoaded words (caller.Agent a) = Unit {0}
+HasLoaded words (caller.Cpu q) = cpu_loads words q
+
+-- the stamps of the accesses of caller number c, in a history from a first map
+abbrev pub HasOwnStamps : List Gpi → List Entry → ℕ → Caller → Type 0
+HasOwnStamps map h c (caller.Agent a) = Unit {0}
+HasOwnStamps map h c (caller.Cpu q) = cpu_stamps map h c q
 
 -- ---- runs of stores
 

@@ -1,17 +1,31 @@
 -- A processor as a caller: what each fact of the core reads of it.
-use Rattle.std.specs.Prelude.{◌≡◌, ℕ, ◌-◌, Bool, false, List, [], length, Option}
+use Rattle.std.specs.Prelude.{◌≡◌, ℕ, ◌-◌, ◌≤◌, Bool, true, false, List, [], ◌∷◌, ◌++◌, length, slice_index, Option, Some}
 use Rattle.gpi_values.specs.declared.gpi.Gpi.{Gpi}
 use Rattle.gpt_descriptors.specs.declared.size.Size.{Size}
-use Rattle.gpt_descriptors.specs.Places.{GeometryData}
+use Rattle.gpi_values.specs.declared.gpi.Space.{Space}
+use Rattle.gpi_values.specs.Values.{permits_of}
+use Rattle.gpt_descriptors.specs.Sizes.{granule_bytes, granule_number, tag_size_of, generation_in}
+use Rattle.gpt_descriptors.specs.Places.{GeometryData, gen_place_of}
 use Rattle.shared_words.specs.declared.act.Act.{Act}
 use Rattle.table_meaning.specs.Equation.{Holder, Whole}
+use Rattle.history.specs.declared.call.Task.{Task}
+use Rattle.history.specs.declared.call.Task.TheVariants as task
+use Rattle.history.specs.declared.call.Access.{Access}
+use Rattle.history.specs.declared.call.Via.TheVariants as via
 use Rattle.history.specs.declared.call.Answer.{Answer}
 use Rattle.history.specs.declared.entry.Entry.{Entry}
+use Rattle.history.specs.Counts.{count_around}
+use Rattle.history.specs.Stamps.{IsStamped, AreStamped, gpi_after}
 use Rattle.history.specs.Events.{CallEvent}
 pub use Rattle.processor.specs.InnerCpus.{duty_at}
+use Rattle.processor.specs.declared.walk.Walk.{Walk}
+use Rattle.processor.specs.Accesses.{looked_entry}
+use Rattle.processor.specs.InnerProgress.{Stage}
+use Rattle.processor.specs.InnerProgress as stage
 use Rattle.processor.specs.InnerCpus.{CpuData, IsCpu, IsReadable, task_of, fresh, next_of, took_of}
 use Rattle.processor.specs.InnerEntries.{made_at, own_entries}
 use Rattle.processor.specs.InnerScript.{HasWalked}
+use Rattle.core_machine.specs.InnerAgentCaller.{comes_before}
 
 -- ---- how it was made
 
@@ -60,6 +74,64 @@ cpu_makes c q old = made_at q.geometry c (length q.answers) q.stage (task_of q) 
 abbrev pub cpu_own : ℕ → CpuData → List Entry
 cpu_own c q = own_entries c q
 
+-- ---- the generations that it has loaded, and the stamps of its accesses
+
+-- a generation that was loaded is at least the first one, and at most what its word is now
+abbrev pub IsLoaded : GeometryData → List ℕ → ℕ → Size → ℕ → Type 0
+IsLoaded g words pa y value =
+    (g.setup.first ≤ value) × (value ≤ slice_index words (gen_place_of g y pa))
+
+abbrev pub loads_at : GeometryData → List ℕ → ℕ → Stage → Type 0
+loads_at g words pa (stage.Loading z k) =
+    (y : Size) → comes_before y z ≡ true → IsLoaded g words pa y (generation_in y k)
+loads_at g words pa (stage.Walking k) = (y : Size) → IsLoaded g words pa y (generation_in y k)
+loads_at g words pa (stage.Closing w) = IsLoaded g words pa (tag_size_of w.reach) w.lo
+loads_at g words pa s = Unit {0}
+
+abbrev pub loads_by : GeometryData → List ℕ → Stage → Option Task → Type 0
+loads_by g words s (Some (task.Look pa space)) = loads_at g words pa s
+loads_by g words s o = Unit {0}
+
+abbrev pub cpu_loads : List ℕ → CpuData → Type 0
+cpu_loads words q = loads_by q.geometry words q.stage (task_of q)
+
+-- Access k of caller c, which this walk has decided, has its entry in the history. The generation
+-- that it has loaded is at least the first one, and at most the count before its entry.
+pub record IsDecided (g : GeometryData) (map : List Gpi) (c k pa : ℕ) (space : Space) (w : Walk)
+    (h : List Entry) : Type 0 where
+  pub before : List Entry
+  pub after : List Entry
+  pub parts : h ≡ before ++ looked_entry g c k pa space w.gpi ∷ after
+  pub least : g.setup.first ≤ w.lo
+  pub low : w.lo ≤ count_around g.setup.first (granule_bytes g.setup)
+      (granule_number g.setup pa) before (tag_size_of w.reach)
+  pub gives : gpi_after map before (granule_number g.setup pa) ≡ Some w.gpi
+
+abbrev pub walk_access : Space → Walk → ℕ → Access
+walk_access space w hi = record {
+  allowed = permits_of w.gpi space;
+  gpi = w.gpi;
+  level = 1;
+  via = via.Cold w.reach w.lo hi;
+}
+
+abbrev pub stamps_at : GeometryData → List Gpi → ℕ → ℕ → ℕ → Space → Stage → List Entry → Type 0
+stamps_at g map c k pa space (stage.Closing w) h = IsDecided g map c k pa space w h
+stamps_at g map c k pa space (stage.Leaving w hi) h =
+    IsStamped map g.setup.first (granule_bytes g.setup) c k (granule_number g.setup pa) space
+    (walk_access space w hi) h
+stamps_at g map c k pa space s h = Unit {0}
+
+abbrev pub stamps_by : GeometryData → List Gpi → ℕ → ℕ → Stage → Option Task → List Entry → Type 0
+stamps_by g map c k s (Some (task.Look pa space)) h = stamps_at g map c k pa space s h
+stamps_by g map c k s o h = Unit {0}
+
+-- those of its answers, and of the access under way
+abbrev pub cpu_stamps : List Gpi → List Entry → ℕ → CpuData → Type 0
+cpu_stamps map h c q =
+    AreStamped map q.geometry.setup.first (granule_bytes q.geometry.setup) c q.tasks q.answers h
+    × stamps_by q.geometry map c (length q.answers) q.stage (task_of q) h
+
 -- ---- it takes no lock and changes no granule
 
 abbrev pub cpu_holds : ℕ → CpuData → Bool
@@ -74,6 +146,6 @@ cpu_owes y region q = false
 abbrev pub cpu_holder : CpuData → Holder
 cpu_holder q = record { granule = 0; step = Whole }
 
--- what it keeps is not yet tied to the map and the words
+-- what it keeps is no matter of the map
 abbrev pub cpu_sees : (ℕ → Gpi) → List ℕ → CpuData → Type 0
 cpu_sees m words q = Unit {0}

@@ -1,5 +1,5 @@
 -- The facts that hold between any two acts, each over what it reads.
-use Rattle.std.specs.Prelude.{◌≡◌, ℕ, ◌+◌, ◌*◌, ◌<◌, true, false, ◌==◌, List, [], ◌∷◌, ◌++◌, length, map, count_by, slice_get, slice_index, Some}
+use Rattle.std.specs.Prelude.{◌≡◌, ℕ, ◌+◌, ◌*◌, ◌<◌, ◌≤◌, true, false, ◌==◌, List, [], ◌∷◌, ◌++◌, length, map, count_by, slice_get, slice_index, Some}
 use Rattle.std.specs.List.{All, filter, flat_map, list_any}
 use Rattle.gpi_values.specs.declared.gpi.Gpi.{Gpi}
 use Rattle.gpt_descriptors.specs.declared.size.Size.{Size}
@@ -18,7 +18,7 @@ use Rattle.history.specs.Calls.{entries_by}
 use Rattle.history.specs.Counts.{is_by, count_of}
 use Rattle.core_machine.specs.declared.caller.Caller.{Caller}
 use Rattle.core_machine.specs.Facts.{AreUndisturbed, IsCounted, generation_word, is_on_block}
-use Rattle.core_machine.specs.InnerCallers.{IsMade, call_of, caller_tasks, known_answers, own_of, holds, open_by, is_due, holder_by, number_by, duty_by, Sees}
+use Rattle.core_machine.specs.InnerCallers.{IsMade, call_of, caller_tasks, known_answers, own_of, holds, open_by, is_due, holder_by, number_by, duty_by, HasLoaded, HasOwnStamps, Sees}
 use Rattle.core_machine.specs.InnerScene.{Scene, state_in, map_in}
 
 pub record HasShape (g : GeometryData) (s : Scene) : Type 0 where
@@ -86,6 +86,14 @@ NumbersDiffer callers =
 abbrev pub NoLines : GeometryData → List ℕ → Type 0
 NoLines g words = (i : ℕ) → i < l1_words g → slice_index words (place_of g (Line i)) ≡ 0
 
+-- ---- generations
+
+-- Each generation is at least the first one.
+abbrev pub LeastGenerations : GeometryData → List ℕ → Type 0
+LeastGenerations g words =
+    (y : Size) (region : ℕ) → region < blocks_in_region y * g.setup.gigabytes
+    → g.setup.first ≤ generation_word g words y region
+
 -- ---- calls that are alone
 
 -- since call k of caller c took lock n, no other has made an entry on its lock block
@@ -141,3 +149,8 @@ pub record HoldsIn (g : GeometryData) (s : Scene) : Type 0 where
   pub duties : DutyOfEach g s.words s.callers
   pub numbers : NumbersDiffer s.callers
   pub lines : NoLines g s.words
+  pub least : LeastGenerations g s.words
+  pub loads : (c : ℕ) (caller : Caller) → slice_get s.callers c ≡ Some caller
+      → HasLoaded s.words caller
+  pub stamps : (c : ℕ) (caller : Caller) → slice_get s.callers c ≡ Some caller
+      → HasOwnStamps s.first s.history c caller
