@@ -1,5 +1,5 @@
 -- The entries of accesses: each is allowed by its task and its answer, and is on no lock block.
-use Rattle.std.proofs.Common.{◌≡◌, ℕ, zero, suc, ◌+◌, ◌<◌, ◌++◌, ◌∷◌, [], ◌/◌, List, Bool, true, false, Option, Some, None, length, take, refl, sym, ap, ◌∙◌, subst, arith, inl, inr}
+use Rattle.std.proofs.Common.{◌≡◌, ℕ, zero, suc, ◌+◌, ◌<◌, ◌∷◌, [], ◌/◌, List, Bool, true, false, Option, Some, None, length, take, refl, sym, ◌∙◌, subst, arith, inl, inr}
 use Rattle.std.specs.Prelude.{slice_get, MatchOption}
 use Rattle.std.specs.List.{All, list_any}
 use Rattle.std.proofs.lemmas.Bool.{cases_Bool}
@@ -13,8 +13,6 @@ use Rattle.core_machine.proofs.Names.entry
 use Rattle.gpi_values.specs.declared.gpi.Space.{Space}
 use Rattle.gpt_descriptors.specs.Sizes.{space_bytes}
 use Rattle.gpt_descriptors.specs.Places.{block_gpi_of}
-use Rattle.history.specs.declared.call.Access.{Access}
-use Rattle.history.specs.Calls.{IsUnderWay}
 use Rattle.history.specs.Legality.{is_seen, is_still}
 use Rattle.delegate_ops.specs.Deciding.{is_look}
 use Rattle.processor.specs.declared.walk.Walk.{Walk}
@@ -143,5 +141,7 @@ under_way_fails p g c k s (Some task.Unknown) fails = refl
 pub own_fail : (p : Entry → Bool) (c : ℕ) (q : CpuData) (events : List CallEvent) → FailsLooks p → HasWalked c q events → list_any p (own_entries c q) ≡ false
 own_fail p c q events fails walked =
     list_any-append p (answered_entries (granule_bytes q.geometry.setup) c 0 q.tasks q.answers) (entries_at q.geometry c (length q.answers) q.stage (task_of q))
-    ∙ rw (answered_fail p (granule_bytes q.geometry.setup) c 0 q.tasks q.answers fails (λ j a there. answers_seen q.geometry q.number c 0 j q.tasks q.answers walked.calls a walked.answered there),
-    under_way_fails p q.geometry c (length q.answers) q.stage (task_of q) fails) refl
+    ∙ rw (
+      answered_fail p (granule_bytes q.geometry.setup) c 0 q.tasks q.answers fails (λ j a there. answers_seen q.geometry q.number c 0 j q.tasks q.answers walked.calls a walked.answered there),
+      under_way_fails p q.geometry c (length q.answers) q.stage (task_of q) fails,
+    ) refl

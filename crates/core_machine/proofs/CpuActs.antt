@@ -1,15 +1,13 @@
 -- The acts of a processor: the stores of its duty word, the loads of generations, and the load of the L1 word.
-use Rattle.std.proofs.Common.{◌≡◌, ℕ, zero, suc, ◌+◌, ◌*◌, ◌/◌, ◌%◌, ◌<◌, ◌≤◌, ◌⊎◌, ◌++◌, ◌∷◌, [], List, map, true, false, Option, Some, None, length, drop, set, refl, sym, ap, ◌∙◌, subst, arith, inl, inr, append-nil}
+use Rattle.std.proofs.Common.{◌≡◌, ℕ, zero, suc, ◌+◌, ◌*◌, ◌/◌, ◌<◌, ◌≤◌, ◌⊎◌, ◌++◌, ◌∷◌, [], List, map, true, false, Option, Some, None, length, drop, set, refl, sym, ap, ◌∙◌, subst, arith, inl, inr, append-nil}
 use Rattle.std.specs.Prelude.{slice_get, slice_index, is_some}
 use Rattle.std.specs.List.{count_by}
 use Rattle.std.specs.Option.{option_map}
 use Rattle.std.proofs.lemmas.List.{set-get_or, get_or-set_same}
-use Rattle.core_machine.proofs.Names.{Gpi, granule_bytes, canonical_word, word_gpi, GeometryData, WordName, Duty, place_of, l0_words, l1_index, l1_place_of, lock_bit, apart_by, Whole, Task, Answer, Entry, Act, place_in, after_act, answer_of, Generations, HoldsIn, Scene, state_in, map_in, scene_after, Caller, CpuData, IsCpu, IsMade, Size, holder_by, holds, is_due, number_by, IsCounted, blocks_in_region, count_of, gen_place_of, lock_number}
-use Rattle.core_machine.proofs.Names.gpi
+use Rattle.core_machine.proofs.Names.{Gpi, granule_bytes, canonical_word, word_gpi, GeometryData, WordName, Duty, place_of, l0_words, l1_index, l1_place_of, apart_by, Task, Answer, Entry, Act, place_in, after_act, answer_of, Generations, HoldsIn, Scene, map_in, scene_after, CpuData, IsCpu, IsMade, Size, holder_by, holds, is_due, IsCounted, blocks_in_region, count_of, gen_place_of, lock_number}
 use Rattle.core_machine.proofs.Names.size
 use Rattle.core_machine.proofs.Names.task
 use Rattle.core_machine.proofs.Names.answer
-use Rattle.core_machine.proofs.Names.entry
 use Rattle.core_machine.proofs.Names.caller
 use Rattle.core_machine.proofs.Names.act
 use Rattle.gpi_values.specs.declared.gpi.Space.{Space}
@@ -22,7 +20,7 @@ use Rattle.invalidate.specs.Generations.{gen_load_of}
 use Rattle.history.specs.Legality.{is_seen}
 use Rattle.history.specs.Events.{CallEvent}
 use Rattle.processor.specs.declared.walk.Walk.{Walk}
-use Rattle.processor.specs.Accesses.{walk_with, walk_of, walk_answer, looked_entry}
+use Rattle.processor.specs.Accesses.{walk_with, walk_answer, looked_entry}
 use Rattle.processor.specs.InnerProgress.{Stage, act_at, after_word, no_generations}
 use Rattle.processor.specs.InnerProgress as stage
 use Rattle.processor.specs.InnerCpus.{IsReadable, after_answer, idle_answers, task_of, goes_to, next_at, next_of, took_at, took_of}
@@ -38,11 +36,11 @@ use Rattle.core_machine.specs.InnerAgentCaller.{comes_before}
 use Rattle.core_machine.specs.InnerCpuCaller.{IsDecided, IsLoaded, cpu_loads, cpu_stamps, duty_at, loads_at, loads_by, stamps_at, stamps_by}
 use Rattle.core_machine.proofs.ListLemmas.{get_append, one, some_or_none}
 use Rattle.core_machine.proofs.StampLemmas.{count_grows, idle_unstamped, own_stamps_grow, region_around, starting_loads, starting_stamps}
-use Rattle.core_machine.proofs.AddressLemmas.{index_at, granule_within, word_by_granule, word_readable}
+use Rattle.core_machine.proofs.AddressLemmas.{index_at, word_by_granule, word_readable}
 use Rattle.core_machine.proofs.CallerLemmas.{due_alone, made_at_place, placed_at}
 use Rattle.core_machine.proofs.ActLemmas.{canonical_gives, map_gives}
 use Rattle.core_machine.proofs.StepLemmas.{aside_keeps, rises_left, step_keeps, tables_whole}
-use Rattle.core_machine.proofs.WordLemmas.{Writes, is_generation, is_level1, is_line, is_lock, locks_left, generations_left, writes_none, writes_one, plain_apart}
+use Rattle.core_machine.proofs.WordLemmas.{Writes, is_generation, is_level1, is_line, is_lock, locks_left, writes_none, writes_one}
 
 -- ---- answers
 
@@ -359,9 +357,11 @@ answered_stamped {s = s} {c = c} {q = q} {pa = pa} {space = space} w hi acting =
 -- by its stage: for each kind of act one row
 pub access_keeps : {s : Scene} {c : ℕ} {q : CpuData} {pa : ℕ} {space : Space} (st : Stage) (next : Act) → Accessing s c q pa space st → act_at q.geometry q.number pa st ≡ Some next → AccessKeeps s c q pa space st next
 access_keeps {s = s} {c = c} {q = q} {pa = pa} {space = space} stage.Starting next acting e =
-    subst (AccessKeeps s c q pa space stage.Starting) (let same : on_act q.geometry q.number ≡ next = cc in same)
-    (tt, store_quiet acting (goes_to q (stage.Loading size.Two no_generations)) 1 (acting.made 0 tt) refl refl (acting.own 0 ∙ append-nil _)
-    (loads_of acting (stage.Loading size.Two no_generations) (set s.words (place_of q.geometry (Duty q.number)) 1) (λ y before. absurd (none_before y before))) (stamps_of acting (stage.Loading size.Two no_generations) s.history (stamps_are acting) tt))
+    subst (AccessKeeps s c q pa space stage.Starting) (let same : on_act q.geometry q.number ≡ next = cc in same) (
+      tt,
+      store_quiet acting (goes_to q (stage.Loading size.Two no_generations)) 1 (acting.made 0 tt) refl refl (acting.own 0 ∙ append-nil _)
+          (loads_of acting (stage.Loading size.Two no_generations) (set s.words (place_of q.geometry (Duty q.number)) 1) (λ y before. absurd (none_before y before))) (stamps_of acting (stage.Loading size.Two no_generations) s.history (stamps_are acting) tt),
+    )
 access_keeps {s = s} {c = c} {q = q} {pa = pa} {space = space} (stage.Loading size.Two k) next acting e =
     subst (AccessKeeps s c q pa space (stage.Loading size.Two k)) (let same : gen_load_of q.geometry size.Two pa ≡ next = cc in same) (generation_keeps acting _ _ tt refl refl refl (two_loaded q.geometry s.words pa (slice_index s.words (gen_place_of q.geometry size.Two pa)) k (loaded_now acting size.Two)) tt)
 access_keeps {s = s} {c = c} {q = q} {pa = pa} {space = space} (stage.Loading size.ThirtyTwo k) next acting e =
@@ -374,9 +374,11 @@ access_keeps {s = s} {c = c} {q = q} {pa = pa} {space = space} (stage.Walking k)
 access_keeps {s = s} {c = c} {q = q} {pa = pa} {space = space} (stage.Closing w) next acting e =
     subst (AccessKeeps s c q pa space (stage.Closing w)) (let same : gen_load_of q.geometry (tag_size_of w.reach) pa ≡ next = cc in same) (generation_keeps acting (gen_place_of q.geometry (tag_size_of w.reach) pa) (stage.Leaving w (slice_index s.words (gen_place_of q.geometry (tag_size_of w.reach) pa))) tt refl refl refl tt (closed_stamped w acting))
 access_keeps {s = s} {c = c} {q = q} {pa = pa} {space = space} (stage.Leaving w hi) next acting e =
-    subst (AccessKeeps s c q pa space (stage.Leaving w hi)) (let same : off_act q.geometry q.number ≡ next = cc in same)
-    (tt, store_quiet acting (after_answer (goes_to q (stage.Leaving w hi)) (walk_answer space w hi)) 0 (acting.made 0 tt) refl refl (acting.own 0 ∙ append-nil _)
-    (starting_loads q.geometry (set s.words (place_of q.geometry (Duty q.number)) 0) (task_of (after_answer (goes_to q (stage.Leaving w hi)) (walk_answer space w hi)))) (answered_stamped w hi acting))
+    subst (AccessKeeps s c q pa space (stage.Leaving w hi)) (let same : off_act q.geometry q.number ≡ next = cc in same) (
+      tt,
+      store_quiet acting (after_answer (goes_to q (stage.Leaving w hi)) (walk_answer space w hi)) 0 (acting.made 0 tt) refl refl (acting.own 0 ∙ append-nil _)
+          (starting_loads q.geometry (set s.words (place_of q.geometry (Duty q.number)) 0) (task_of (after_answer (goes_to q (stage.Leaving w hi)) (walk_answer space w hi)))) (answered_stamped w hi acting),
+    )
 
 -- a load, or a store of its duty word, which it sets where it is off and clears where it is on
 pub how_acts : (g : GeometryData) (p pa : ℕ) (st : Stage) (next : Act) → act_at g p pa st ≡ Some next

@@ -1,5 +1,5 @@
 -- What the callers' own entries and the states tell: a legal history of their calls.
-use Rattle.std.proofs.Common.{◌≡◌, ℕ, suc, ◌+◌, ◌<◌, ◌++◌, ◌∷◌, [], List, eqb, Option, Some, None, length, map, refl, sym, ap, ◌∙◌, subst, arith, inl, inr}
+use Rattle.std.proofs.Common.{◌≡◌, ℕ, suc, ◌+◌, ◌<◌, ◌∷◌, [], List, eqb, Option, Some, None, length, map, refl, sym, ap, ◌∙◌, subst, arith, inl, inr}
 use Rattle.std.specs.Prelude.{slice_get, option_and_then, MatchOption}
 use Rattle.std.specs.List.{All}
 use Rattle.std.specs.Option.{option_map}
@@ -7,7 +7,6 @@ use Rattle.std.proofs.lemmas.Bool.{cases_Bool, eq-eqb}
 use Rattle.std.proofs.lemmas.Option.{slice_get-map, slice_get_cases, slice_get_past}
 use Rattle.std.proofs.lemmas.List.Elements.{All-nil, All-cons, All-head, All-tail, All-append, All-weaker}
 use Rattle.core_machine.proofs.Names.{Gpi, granule_bytes, space_granules, GeometryData, Task, Answer, Entry, granule_in, caller_in, call_in, State, start, after_entry, granule_of, CallAllows, entries_by, call_entries, answered_entries, answer_at, Stage, AgentData, IsAgent, HasActs, IsStage, task_of, CallEvent, Caller, CpuData, IsCpu, caller_answers, caller_tasks, entries_at, IsPrefix, AreAllowed, IsHistoryOf}
-use Rattle.core_machine.proofs.Names.answer
 use Rattle.core_machine.proofs.Names.caller
 use Rattle.history.specs.Calls as calls
 use Rattle.history.specs.Calls.{IsUnderWay, task_at, Fits, IsLegalHistory, HasCalls}

@@ -1,16 +1,13 @@
 -- The generations that accesses have loaded, and the stamps of accesses: what later acts leave of them.
-use Rattle.std.proofs.Common.{◌≡◌, ℕ, zero, suc, ◌+◌, ◌*◌, ◌/◌, ◌≤◌, ◌<◌, ◌++◌, ◌∷◌, [], List, true, false, ◌&&◌, eqb, Option, Some, None, length, set, refl, sym, ap, ◌∙◌, subst, arith, inl, inr, append_assoc}
+use Rattle.std.proofs.Common.{◌≡◌, ℕ, zero, suc, ◌*◌, ◌/◌, ◌≤◌, ◌<◌, ◌++◌, ◌∷◌, [], List, ◌&&◌, eqb, Option, Some, None, length, set, refl, sym, ap, ◌∙◌, subst, arith, inl, inr, append_assoc}
 use Rattle.std.specs.Prelude.{slice_get, slice_index}
-use Rattle.std.specs.List.{count_by}
 use Rattle.std.proofs.lemmas.Bool.{cases_eq}
 use Rattle.std.proofs.lemmas.List.{get_or-set_other, get_or-set_same}
 use Rattle.std.proofs.lemmas.List.Sums.{sum_by-append}
 use Rattle.std.proofs.Math.Nat.{mul_comm, div-div-eq-div-mul}
-use Rattle.core_machine.proofs.Names.{Gpi, Size, SetupData, granule_bytes, size_bytes, space_bytes, words_of, GeometryData, gen_place_of, blocks_in_region, generation_word, Task, Answer, Entry, granule_in, region_of, count_of, Caller, CpuData, IsMade, number_by, HoldsIn, Scene, generation_in}
-use Rattle.core_machine.proofs.Names.size
+use Rattle.core_machine.proofs.Names.{Gpi, Size, SetupData, granule_bytes, size_bytes, space_bytes, words_of, GeometryData, gen_place_of, blocks_in_region, generation_word, Task, Answer, Entry, granule_in, region_of, Caller, IsMade, number_by, generation_in}
 use Rattle.core_machine.proofs.Names.task
 use Rattle.core_machine.proofs.Names.answer
-use Rattle.core_machine.proofs.Names.entry
 use Rattle.core_machine.proofs.Names.caller
 use Rattle.gpi_values.specs.declared.gpi.Space.{Space}
 use Rattle.gpt_descriptors.specs.declared.size.Reach.{Reach}
@@ -22,7 +19,7 @@ use Rattle.history.specs.declared.call.Access.{Access}
 use Rattle.history.specs.declared.call.Via.{Via}
 use Rattle.history.specs.declared.call.Via.TheVariants as via
 use Rattle.history.specs.Counts.{is_change, count_around}
-use Rattle.history.specs.Stamps.{AreStamps, AreStamped, FitStamps, Gave, IsStamped, IsStampedCall}
+use Rattle.history.specs.Stamps.{AreStamps, FitStamps, IsStamped, IsStampedCall}
 use Rattle.processor.specs.declared.walk.Walk.{Walk}
 use Rattle.processor.specs.Accesses.{IsAccess, block_answer}
 use Rattle.processor.specs.InnerProgress.{Stage}

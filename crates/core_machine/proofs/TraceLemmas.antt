@@ -10,7 +10,7 @@ use Rattle.std.proofs.lemmas.Bool.{cases_Bool, cases_eq, cases_order, eq-eqb, ne
 use Rattle.std.proofs.lemmas.List.{map-append, set-get_or, get_or-set_other, get_or-set_same}
 use Rattle.std.proofs.lemmas.List.Elements.{filter-append, All-nil, All-cons, All-append}
 use Rattle.std.proofs.lemmas.List.Sums.{sum_by-append}
-use Rattle.core_machine.proofs.Names.{GeometryData, Duty, place_of, WordName, IsWordName, Act, answer_of, after_act, place_in, lock_bit, take_act, release_act, Scenario, Script, AgentData, IsStage, fresh, Caller, TraceEvent, CallEvent, HoldsIn, MachineData, InvariantFor, after_turn, after_turns, scene_of, trace_of, IsMade, caller_next, caller_took, holds, callers_from, next_number, opening_of, played, first_map, geometry_of, task_of_ask, task_of_look, turns_in, Scene, is_inside}
+use Rattle.core_machine.proofs.Names.{GeometryData, Duty, place_of, WordName, IsWordName, Act, answer_of, after_act, place_in, lock_bit, take_act, release_act, Scenario, Script, IsStage, fresh, Caller, TraceEvent, CallEvent, HoldsIn, MachineData, InvariantFor, after_turn, after_turns, scene_of, trace_of, IsMade, caller_next, caller_took, holds, callers_from, next_number, opening_of, played, first_map, geometry_of, task_of_ask, task_of_look, turns_in, Scene, is_inside}
 use Rattle.core_machine.proofs.Names.act
 use Rattle.core_machine.proofs.Names.script
 use Rattle.core_machine.proofs.Names.caller

@@ -1,6 +1,6 @@
 -- A turn of a machine by that of its caller, whether or not it has a next act.
-use Rattle.std.proofs.Common.{◌≡◌, ℕ, ◌<◌, List, Bool, true, false, Option, Some, None, length, get_or, set, refl, sym, ap, ◌∙◌, subst}
-use Rattle.std.specs.Prelude.{slice_get, is_some, not}
+use Rattle.std.proofs.Common.{◌≡◌, ℕ, ◌<◌, List, true, Option, Some, None, length, get_or, set, refl, sym, ap, ◌∙◌, subst}
+use Rattle.std.specs.Prelude.{is_some, not}
 use Rattle.std.proofs.lemmas.List.{set-get_or}
 use Rattle.std.proofs.lemmas.List.Elements.{All-get_or}
 use Rattle.gpi_values.specs.declared.gpi.Gpi.{Gpi}

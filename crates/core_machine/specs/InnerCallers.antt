@@ -1,6 +1,6 @@
 -- Callers as plain data: what the facts of the core read of them, by their kind. What it is of an
 -- agent is in InnerAgentCaller, what of a processor in InnerCpuCaller.
-use Rattle.std.specs.Prelude.{ℕ, Bool, false, List, [], length, Option, Some, None}
+use Rattle.std.specs.Prelude.{ℕ, Bool, false, List, length, Option, Some, None}
 use Rattle.gpi_values.specs.declared.gpi.Gpi.{Gpi}
 use Rattle.gpt_descriptors.specs.declared.size.Size.{Size}
 use Rattle.gpt_descriptors.specs.Places.{GeometryData}

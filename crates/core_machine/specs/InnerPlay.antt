@@ -1,5 +1,5 @@
 -- A scenario's callers, its machine before the first act, and what its turns leave.
-use Rattle.std.specs.Prelude.{ℕ, ◌+◌, ◌<◌, List, [], ◌∷◌, length, map}
+use Rattle.std.specs.Prelude.{ℕ, ◌+◌, ◌<◌, List, [], ◌∷◌, map}
 use Rattle.gpt_descriptors.specs.Places.{GeometryData}
 use Rattle.scenario_text.specs.declared.scenario.Scenario.{Scenario}
 use Rattle.scenario_text.specs.declared.scenario.Script.{Script}
