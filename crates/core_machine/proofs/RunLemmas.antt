@@ -1,5 +1,5 @@
 -- What a run leaves: its trace, and what answers and words are for the trace's history.
-use Rattle.std.proofs.Common.{◌≡◌, ℕ, zero, suc, ◌+◌, ◌*◌, ◌<◌, ◌≤◌, not, ◌⊎◌, ◌∷◌, [], List, true, false, map, length, Option, Some, None, get_or, refl, sym, ap, ◌∙◌, subst, arith, inl, inr}
+use Rattle.std.proofs.Common.{◌≡◌, ℕ, zero, suc, ◌+◌, ◌*◌, ◌<◌, ◌≤◌, not, ◌⊎◌, ◌++◌, ◌∷◌, [], List, true, false, map, length, Option, Some, None, get_or, refl, sym, ap, ◌∙◌, subst, arith, inl, inr}
 use Rattle.std.specs.Prelude.{slice_get, slice_index, is_some, Result, Ok, Err, IfOk}
 use Rattle.history.specs.declared.outcome.Outcome.{Outcome}
 use Rattle.std.specs.List.{All, count_by}
@@ -7,11 +7,14 @@ use Rattle.std.specs.Option.{option_map}
 use Rattle.std.proofs.lemmas.Bool.{cases_Bool}
 use Rattle.std.proofs.lemmas.List.{length-map}
 use Rattle.std.proofs.lemmas.Option.{slice_get_cases, slice_get-map, slice_get_past, slice_get_within, get_or_from_slice_get}
-use Rattle.core_machine.proofs.Names.{Gpi, Entry, Size, granule_bytes, size_bytes, GeometryData, blocks_in_region, word_count, Duty, place_of, CallEvent, CpuData, IsCpu, Act, lock_number, lock_bit, Scenario, Script, Task, Answer, answer_at, count_of, AgentData, IsAgent, next_of, Caller, caller_next, caller_answers, known_answers, duty_by, number_by, holds, is_due, caller_tasks, IsMade, HoldsIn, InvariantFor, scene_of, caller_of, callers_from, cpu_number, opening_of, played, IsCounted, generation_word, TraceEvent, history_of, first_map, geometry_of, task_of_ask, task_of_look, turns_in, Scene, is_inside, coming_at}
+use Rattle.core_machine.proofs.Names.{Gpi, Entry, start, after_entry, state_after, Size, granule_bytes, size_bytes, GeometryData, blocks_in_region, word_count, Duty, place_of, CallEvent, CpuData, IsCpu, Act, lock_number, lock_bit, Scenario, Script, Task, Answer, answer_at, count_of, AgentData, IsAgent, next_of, Caller, caller_next, caller_answers, known_answers, duty_by, number_by, holds, is_due, caller_tasks, IsMade, HoldsIn, InvariantFor, scene_of, caller_of, callers_from, cpu_number, opening_of, played, IsCounted, generation_word, TraceEvent, history_of, first_map, geometry_of, task_of_ask, task_of_look, turns_in, Scene, is_inside, coming_at}
 use Rattle.core_machine.proofs.Names.script
 use Rattle.core_machine.proofs.Names.task
+use Rattle.core_machine.proofs.Names.entry
 use Rattle.core_machine.proofs.Names.caller
-use Rattle.history.specs.Calls.{task_at}
+use Rattle.history.specs.Calls.{Fits, IsLegalHistory, task_at}
+use Rattle.history.specs.Legality.{IsSeen}
+use Rattle.history.proofs.HistoryLemmas.{final_look, legal_parts}
 use Rattle.delegate_ops.specs.Deciding.{HasCause}
 use Rattle.delegate_ops.specs.InnerAgents.{has_ended}
 use Rattle.delegate_ops.specs.Script.{Follows}
@@ -39,7 +42,7 @@ use Rattle.processor.specs.InnerCpus.{IsAt}
 use Rattle.processor.specs.InnerProgress as progress
 use Rattle.processor.proofs.CpuLemmas.{some_mapped, next_there as cpu_next_there}
 use Rattle.processor.proofs.FollowLemmas.{cpu_ended, walked_follows as cpu_walked_follows}
-use Rattle.core_machine.specs.Facts.{FitsHistory, IsAccessAnswer}
+use Rattle.core_machine.specs.Facts.{AreFinal, FitsHistory, IsAccessAnswer}
 use Rattle.core_machine.specs.Trace.{events_of, FollowsScript, HasEnded, IsTrace, answers_by}
 use Rattle.core_machine.specs.Scenarios.{tasks_of, first_words}
 use Rattle.core_machine.specs.Run.{IsRun}
@@ -173,6 +176,25 @@ looks_told g callers tasks have made c k pa space given asked answered =
     let task : slice_get (caller_tasks own.0) k ≡ Some (task.Look pa space) = rw (have c own.0 own.1) at asked in
     caller_look g c k own.0 pa space given (made c own.0 own.1) task own.2
 
+fit_is : (o : Option Answer) (a given : Answer) → Fits o a → o ≡ Some given → given ≡ a
+fit_is None a given fits is = absurd cc
+fit_is (Some x) a given fits is = (let same : x ≡ given = cc in sym same ∙ fits)
+
+-- after a change is complete, an access is answered by the map
+final_told : (bytes : ℕ) (first : List Gpi) (tasks : List (List Task)) (answers : List (List Answer)) (h : List Entry) → IsLegalHistory bytes tasks answers (start first) h → AreFinal first answers h
+final_told bytes first tasks answers h legal before between after c k d j granule space gpi allowed parts unchanged =
+    let s = start first in
+    let look = entry.Looked d j granule space gpi allowed in
+    let whole = subst (IsLegalHistory bytes tasks answers s) parts legal in
+    let final = final_look bytes tasks answers s before between after c k granule d j space gpi allowed whole unchanged in
+    let rest = legal_parts bytes tasks answers s before (entry.Settled c k granule ∷ (between ++ look ∷ after)) whole in
+    let last = legal_parts bytes tasks answers (after_entry (state_after s before) (entry.Settled c k granule)) between (look ∷ after) rest.1.1 in
+    let own = last.1.0 in (
+      final.0,
+      final.1,
+      λ given answered. subst (λ (a : Answer). IsSeen a gpi allowed) (sym (fit_is (answer_at answers d j) own.answered given own.answer answered)) own.legal.call.2,
+    )
+
 agent_call_stamped : (map : List Gpi) (first bytes c k : ℕ) (t : Task) (given : Answer) (h : List Entry) → is_look t ≡ false → IsStampedCall map first bytes c k t given h
 agent_call_stamped map first bytes c k (task.Look pa space) given h transition = absurd cc
 agent_call_stamped map first bytes c k (task.Delegate pa source) given h transition = tt
@@ -211,6 +233,7 @@ fits_history g s tasks stands have made numbered count =
       looks = looks_told g s.callers tasks have made;
       counts = counts_told g s tasks stands have;
       worn = worn_told g s tasks stands have made;
+      final = final_told (granule_bytes g.setup) s.first tasks (map caller_answers s.callers) s.history (made_legal g s.first s.callers s.history tasks stands.history have made stands.shape.granules);
       stamps = stamps_told g s tasks stands have made;
       undisturbed = stands.undisturbed;
       alone = alone_told g s stands made;

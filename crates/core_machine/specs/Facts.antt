@@ -3,6 +3,7 @@ use Rattle.std.specs.Prelude.{◌≡◌, ◌⊎◌, ℕ, ◌+◌, ◌*◌, ◌<�
 use Rattle.std.specs.List.{All, list_any}
 use Rattle.gpi_values.specs.declared.gpi.Gpi.{Gpi}
 use Rattle.gpi_values.specs.declared.gpi.Space.{Space}
+use Rattle.gpi_values.specs.Values.{permits_of}
 use Rattle.gpt_descriptors.specs.declared.size.Size.{Size}
 use Rattle.gpt_descriptors.specs.Sizes.{SetupData, granule_bytes, word_bytes, size_bytes}
 use Rattle.gpt_descriptors.specs.Canonical.{canonical_word}
@@ -17,10 +18,11 @@ use Rattle.history.specs.declared.call.Answer.{Answer}
 use Rattle.history.specs.declared.call.Answer.TheVariants as answer
 use Rattle.history.specs.declared.entry.Entry.{Entry}
 use Rattle.history.specs.declared.entry.Entry.TheVariants as entry
+use Rattle.history.specs.Entries.{changes_granule}
 use Rattle.history.specs.States.{start, state_after}
-use Rattle.history.specs.Legality.{needed, is_still}
+use Rattle.history.specs.Legality.{needed, is_still, IsSeen}
 use Rattle.history.specs.Calls.{task_at, answer_at, IsLegalHistory, HasCalls}
-use Rattle.history.specs.Stamps.{HasStamps}
+use Rattle.history.specs.Stamps.{HasStamps, gpi_after}
 use Rattle.history.specs.Counts.{is_by, count_of, AreDoneCounts, IsWornCount}
 use Rattle.delegate_ops.specs.Deciding.{is_look, HasCause}
 use Rattle.delegate_ops.specs.Script.{granule_of_task}
@@ -67,6 +69,18 @@ is_walked given = false
 abbrev pub IsAccessAnswer : GeometryData → ℕ → Space → Answer → Type 0
 IsAccessAnswer g pa space given =
     MatchOption (block_gpi_of g pa) (is_walked given ≡ true) (λ gpi. given ≡ block_answer space gpi)
+
+-- An access that is decided after a change of its granule is complete, and before the next change
+-- of it, is decided, allowed and answered by the GPI that the map gives the granule there.
+abbrev pub AreFinal : List Gpi → List (List Answer) → List Entry → Type 0
+AreFinal first answers h =
+    (before between after : List Entry) (c k d j granule : ℕ) (space : Space) (gpi : Gpi)
+    (allowed : Bool) → h ≡ before ++ entry.Settled c k granule
+    ∷ (between ++ entry.Looked d j granule space gpi allowed ∷ after)
+    → list_any (changes_granule granule) between ≡ false
+    → (gpi_after first (before ++ entry.Settled c k granule ∷ between) granule ≡ Some gpi)
+    × (allowed ≡ permits_of gpi space)
+    × ((given : Answer) → answer_at answers d j ≡ Some given → IsSeen given gpi allowed)
 
 -- ---- counts
 
@@ -120,7 +134,9 @@ pub record FitsHistory (g : GeometryData) (first : List Gpi) (tasks : List (List
   pub counts : (c k : ℕ) (t : Task) (given : Answer) → task_at tasks c k ≡ Some t
       → answer_at answers c k ≡ Some given → IsCounted g c k t given h
   pub worn : AreWorn g tasks answers h
-  -- the generations of accesses
+  -- after a change is complete no access is granted by the former GPI
+  pub final : AreFinal first answers h
+  -- the generations that accesses are answered
   pub stamps : HasStamps first g.setup.first (granule_bytes g.setup) tasks answers h
   -- transitions on one lock block don't mix
   pub undisturbed : AreUndisturbed g.setup h
