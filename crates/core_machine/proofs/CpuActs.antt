@@ -52,7 +52,7 @@ call_seen : (g : GeometryData) (p c n : ℕ) (t : Task) (given : Answer) (events
 call_seen g p c n (task.Look pa space) given events call = look_seen g p c n pa space _ given events call
 call_seen g p c n t given events call = absurd call
 
--- each answer of a processor tells what an access has seen
+-- each answer of a processor is what an access has seen
 pub answers_seen : (g : GeometryData) (p c n k : ℕ) (tasks : List Task) (answers : List Answer) (events : List CallEvent) (given : Answer) → AreCallEvents g p c n tasks answers events → slice_get answers k ≡ Some given
     → is_seen given ≡ true
 answers_seen g p c n k tasks [] events given are there = absurd cc

@@ -214,6 +214,7 @@ opening_invariant g first callers words fresh_all differ starting =
       counted = λ c k x u given at asked answered. (rests c x at).counted c k u given answered;
       history = record { allowed = tt; own = λ c x at. sym ((rests c x at).own c); known = All-nil (λ e. caller_in e < length callers) };
       duties = λ c p x at is. let rest = rests c x at in starting.duty p (number_low g x p rest.made is) ∙ sym rest.off;
+      others = λ p low none. starting.duty p low;
       numbers = differ;
       lines = starting.lines;
       least = λ y region within. let first = starting.generations y region within in omega (arith, first);

@@ -2,7 +2,7 @@
 -- of the entry that it makes.
 use Rattle.std.proofs.Common.{◌≡◌, ◌≢◌, ℕ, ◌+◌, ◌*◌, ◌<◌, ◌⊎◌, ◌++◌, ◌∷◌, [], List, map, true, false, ◌&&◌, eqb, Option, Some, None, set, refl, sym, ap, ◌∙◌, subst, arith, inl, inr, append-nil}
 use Rattle.std.specs.Prelude.{slice_get, slice_index, IfSome}
-use Rattle.std.proofs.lemmas.Bool.{cases_Bool, eqb-true, eq-eqb}
+use Rattle.std.proofs.lemmas.Bool.{cases_Bool, cases_eq, eqb-true, eq-eqb}
 use Rattle.std.specs.Option.{option_map}
 use Rattle.std.proofs.lemmas.Option.{slice_get-map}
 use Rattle.std.proofs.lemmas.List.{get_or-set_other, map-set}
@@ -16,9 +16,9 @@ use Rattle.history.specs.Legality.{StateAllows}
 use Rattle.history.specs.Counts.{is_change, is_completion}
 use Rattle.history.proofs.HistoryLemmas.{state_after-append}
 use Rattle.core_machine.specs.InnerCallers.{own_of, call_of}
-use Rattle.core_machine.specs.InnerInvariant.{AreTables, OpenAreHeld, IsAlone}
+use Rattle.core_machine.specs.InnerInvariant.{AreTables, OpenAreHeld, IsAlone, OthersAreOff}
 use Rattle.core_machine.specs.Facts.{AreUndisturbed}
-use Rattle.core_machine.proofs.ListLemmas.{one, count_set, each_set, get_set}
+use Rattle.core_machine.proofs.ListLemmas.{one, count_set, each_set, get_set, get_set_here, get_set_other}
 use Rattle.core_machine.proofs.LockLemmas.{locks_keep}
 use Rattle.core_machine.proofs.AddressLemmas.{lock_of}
 use Rattle.core_machine.proofs.CallerLemmas.{held_once, made_at_place, others_closed, placed_at}
@@ -222,6 +222,16 @@ module _ {g : GeometryData} {s : Scene} {c : ℕ} {me x : Caller} {n : Option Wo
       step.writes.beside (Duty p) (number_low g y p (made_at_place g s d y step.stands there) is) (λ same. apart (step.stands.numbers d c p y me there step.at is (step.duty.own p same)))
       ∙ step.stands.duties d p y there is
 
+  others_off : OthersAreOff g after (set s.callers c x)
+  others_off p low none =
+      let not_me : number_by me ≡ Some p → ⊥ = λ is. none c x (get_set_here s.callers c me x step.at) (step.duty.number ∙ is) in
+      step.writes.beside (Duty p) low (λ same. not_me (step.duty.own p same))
+      ∙ step.stands.others p low (λ d y there is.
+      elim (cases_eq d c) [
+        | inl same ↦ not_me (ap number_by (let both : Some me ≡ Some y = sym step.at ∙ ap (slice_get s.callers) (sym same) ∙ there in let here : me ≡ y = cc in here) ∙ is)
+        | inr away ↦ none d y (get_set_other s.callers c d x away ∙ there) is
+      ])
+
   pub step_keeps : HoldsIn g (scene_after s c x after (list_of o))
   step_keeps =
       let h = s.history in
@@ -254,6 +264,7 @@ module _ {g : GeometryData} {s : Scene} {c : ℕ} {me x : Caller} {n : Option Wo
             d y there;
         history = history_keeps s.first s.callers h c (call_of me) me x (list_of o) step.at stands.history added.0 step.own added.1;
         duties = λ d p y there. each_set (λ (d : ℕ) (y : Caller). (p : ℕ) → number_by y ≡ Some p → slice_index after (place_of g (Duty p)) ≡ duty_by y) s.callers c x step.duty.word others_on d y there p;
+        others = others_off;
         numbers = numbers_keep s.callers c me x step.at step.duty.number stands.numbers;
         lines = lines_left step.writes step.duty.line stands.lines;
         least = λ y region within. omega (arith, stands.least y region within, step.rises y region within);

@@ -134,7 +134,7 @@ pub record FitsHistory (g : GeometryData) (first : List Gpi) (tasks : List (List
   pub counts : (c k : ℕ) (t : Task) (given : Answer) → task_at tasks c k ≡ Some t
       → answer_at answers c k ≡ Some given → IsCounted g c k t given h
   pub worn : AreWorn g tasks answers h
-  -- after a change is complete no access is granted by the former GPI
+  -- an access decided after a change is complete isn't granted by the former GPI
   pub final : AreFinal first answers h
   -- the generations that accesses are answered
   pub stamps : HasStamps first g.setup.first (granule_bytes g.setup) tasks answers h

@@ -73,6 +73,13 @@ DutyOfEach g words callers =
     (c p : ℕ) (caller : Caller) → slice_get callers c ≡ Some caller → number_by caller ≡ Some p
     → slice_index words (place_of g (Duty p)) ≡ duty_by caller
 
+-- A duty word whose number no processor has is 0.
+abbrev pub OthersAreOff : GeometryData → List ℕ → List Caller → Type 0
+OthersAreOff g words callers =
+    (p : ℕ) → p < g.cpus
+    → ((c : ℕ) (caller : Caller) → slice_get callers c ≡ Some caller → number_by caller ≡ Some p → ⊥)
+    → slice_index words (place_of g (Duty p)) ≡ 0
+
 -- No two processors have one number.
 abbrev pub NumbersDiffer : List Caller → Type 0
 NumbersDiffer callers =
@@ -147,6 +154,7 @@ pub record HoldsIn (g : GeometryData) (s : Scene) : Type 0 where
   pub counted : AnswersCount g s.callers s.history
   pub history : IsHistoryOf s.first s.callers s.history
   pub duties : DutyOfEach g s.words s.callers
+  pub others : OthersAreOff g s.words s.callers
   pub numbers : NumbersDiffer s.callers
   pub lines : NoLines g s.words
   pub least : LeastGenerations g s.words

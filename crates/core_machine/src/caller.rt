@@ -57,8 +57,8 @@ impl Caller {
     }
 
     /// Its next stores of one value at places one after another, at most this number, as one run.
-    /// They were made. The run is empty where the next act isn't a store of a splitting or of
-    /// merging.
+    /// The caller goes on as after them, and the words are still to be stored. The run is empty
+    /// where the next act isn't a store of a splitting or of merging.
     #[tactic(auto, using(crate::proofs::StoreLemmas::caller_runs))]
     pub fn take_run(&mut self, most: usize) -> StoreRun
         ensures next { AreNext result self.old }

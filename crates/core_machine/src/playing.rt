@@ -10,7 +10,7 @@ use shared_words::Words;
 
 impl<W: Words> Machine<W> {
     /// Turns of a caller, at most this number: those of a run of its stores, or one, and how many
-    /// they were. They were none exactly where a turn changes nothing.
+    /// they were. Where they were none, a turn changes nothing.
     fn stride(&mut self, caller: usize, most: u32) -> u32
         requires caller { caller < length self.old.callers }
         requires invariant { HasInvariant self.old }
