@@ -188,8 +188,8 @@ impl Agent {
     }
 
     /// Its next stores of one value at places one after another, at most this number, as one run.
-    /// They were made. The run is empty where the next act isn't a store of a splitting or of
-    /// merging, or where this number is 0.
+    /// It goes on as after them; they are still to be made on the words. The run is empty where the
+    /// next act isn't a store of a splitting or of merging, or where this number is 0.
     pub fn take_run(&mut self, most: usize) -> StoreRun
         ensures next { AreNext result self.old }
         ensures after { self.new ≡ stored_by result.count self.old }

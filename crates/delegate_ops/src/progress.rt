@@ -301,8 +301,8 @@ impl Progress {
         }
     }
 
-    /// The next stores of a splitting or of merging, at most this number, as one run. They were
-    /// made. The run is empty where the next act isn't such a store.
+    /// The next stores of a splitting or of merging, at most this number, as one run. It goes
+    /// on as after them. The run is empty where the next act isn't such a store.
     pub fn take_run(&mut self, task: Task, most: usize) -> StoreRun
         ensures run { (p : ThePlaces)
             → MakesRun (at_progress task p self.old) result (at_progress task p self.new) }

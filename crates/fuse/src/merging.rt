@@ -160,8 +160,8 @@ impl Fuse {
         };
     }
 
-    /// The next stores, at most this number, as one run. They were made. The run is empty only where
-    /// the next act isn't a store, or where this number is 0.
+    /// The next stores, at most this number, as one run. It goes on as after them; they are still to
+    /// be made. The run is empty only where the next act isn't a store, or where this number is 0.
     #[tactic(auto, using(crate::proofs::RunLemmas::stored_none))]
     pub fn take_run(&mut self, most: usize) -> StoreRun
         ensures next { AreNext result self.old }

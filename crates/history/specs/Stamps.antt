@@ -48,8 +48,8 @@ pub record SawBetween (map : List Gpi) (first bytes granule : ℕ) (z : Size) (l
 
 -- The stamps of an access at a table are two values of one generation, that of the region around
 -- its granule whose size tags a walk of this reach: `lo` was loaded before the access was decided,
--- and `hi` after it. They lie around the count of the region in the entries before its own, and hi
--- isn't above the count of the whole history.
+-- and `hi` after it. With n the count of the region in the entries before its own, lo is at most n
+-- and n at most hi + 1; and hi is at most the count of the whole history.
 pub record AreStamps (map : List Gpi) (first bytes granule : ℕ) (gpi : Gpi) (reach : Reach)
     (lo hi : ℕ) (before h : List Entry) : Type 0 where
   pub least : first ≤ lo

@@ -150,8 +150,8 @@ impl Splitting {
         most.min(left).min(two).min(thirty_two)
     }
 
-    /// The next stores of one value, at most this number, as one run. They were made. The run is
-    /// empty only after the last store, or where this number is 0.
+    /// The next stores of one value, at most this number, as one run. It goes on as after them; they
+    /// are still to be made. The run is empty only after the last store, or where this number is 0.
     pub fn take_run(&mut self, most: usize) -> StoreRun
         ensures next { AreNext result self.old }
         ensures after { self.new ≡ advanced_by result.count self.old }
