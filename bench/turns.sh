@@ -203,17 +203,48 @@ hold() {
     }' || failed=1
 }
 
+# A scenario of $1 processors with $2 accesses each, each processor at a granule of its own from the address $3 on.
+accesses() {
+    head_text
+    awk -v processors="$1" -v looks="$2" -v first="$3" 'BEGIN {
+        for (i = 0; i < processors; i++) {
+            print "cpu"
+            address = sprintf("0x%x", first + i * 4096)
+            for (k = 0; k < looks; k++) printf "look %s nonsecure\n", address
+        }
+    }'
+}
+
+# Acts without their report. What they are held against has as many answers, so that it touches the same memory: calls
+# that are answered `inval`, and accesses at the second gigabyte, an L0 block, both without acts. Accesses are at the
+# first gigabyte; an access has 26 bytes at most.
 if [ -n "${TURNS:-}" ]; then
-    times=$(least_by "$TURNS" one=0 one.one=0 shared=0 shared.one=0)
-    read -r one one_one shared shared_one <<<"$times"
+    readonly one_looks=$(((most_bytes - 600) / 26)) look_acts=7 block=$gigabyte
+    readonly few_looks=$((one_looks / 2)) many_looks=$((one_looks / 32 - 1))
+    accesses 1 "$one_looks" 0 | scenario access "turn 0 $((one_looks * look_acts))"
+    accesses 1 "$one_looks" "$block" | scenario access_block 'turn 0 1'
+    accesses 2 "$few_looks" 0 | scenario accesses2 "round 1 $((few_looks * look_acts))"
+    accesses 2 "$few_looks" "$block" | scenario accesses2_block 'turn 0 1'
+    accesses 32 "$many_looks" 0 | scenario accesses32 "round 1 $((many_looks * look_acts))"
+    accesses 32 "$many_looks" "$block" | scenario accesses32_block 'turn 0 1'
+    times=$(least_by "$TURNS" one=0 one_refused=0 shared=0 shared_refused=0 access=0 access_block=0 \
+        accesses2=0 accesses2_block=0 accesses32=0 accesses32_block=0)
+    read -r one one_refused shared shared_refused access access_block by2 by2_block by32 by32_block <<<"$times"
+    readonly access_acts=$((one_looks * look_acts))
+    readonly by2_acts=$((2 * few_looks * look_acts)) by32_acts=$((32 * many_looks * look_acts))
     echo
-    heading 'whole transitions, each turn an act; no report' acts 'time ms' 'ns/act'
-    row "1 agent, $one_pairs pairs" "$one_acts" $((one - one_one))
-    row "32 agents, $shared_pairs pairs each" "$shared_acts" $((shared - shared_one))
-    compare 'an act of 32 agents to one of 1 agent' "$((shared - shared_one))" "$shared_acts" "$((one - one_one))" "$one_acts"
+    heading 'each turn an act; no report' acts 'time ms' 'ns/act'
+    row "whole transitions: 1 agent, $one_pairs pairs" "$one_acts" $((one - one_refused))
+    row "32 agents, $shared_pairs pairs each" "$shared_acts" $((shared - shared_refused))
+    row "accesses: 1 processor, $one_looks" "$access_acts" $((access - access_block))
+    row "2 processors, $few_looks each, in turns" "$by2_acts" $((by2 - by2_block))
+    row "32 processors, $many_looks each, in turns" "$by32_acts" $((by32 - by32_block))
+    compare 'an act of 32 agents to one of 1 agent' $((shared - shared_refused)) "$shared_acts" $((one - one_refused)) "$one_acts"
+    compare 'an act of 32 processors to one of 2' $((by32 - by32_block)) "$by32_acts" $((by2 - by2_block)) "$by2_acts"
     if [ -n "${YARDSTICK:-}" ]; then
-        hold act 'an act of 1 agent' $((one - one_one)) "$one_acts" "$most_act_ratio"
-        hold act 'an act of 32 agents' $((shared - shared_one)) "$shared_acts" "$most_act_ratio"
+        hold act 'an act of 1 agent' $((one - one_refused)) "$one_acts" "$most_act_ratio"
+        hold act 'an act of 32 agents' $((shared - shared_refused)) "$shared_acts" "$most_act_ratio"
+        hold act 'an act of 1 processor' $((access - access_block)) "$access_acts" "$most_act_ratio"
     fi
 fi
 
