@@ -57,7 +57,7 @@ last_again n xs ys =
     subst (λ (l : List Walk). last_of n l ≡ last_of n (xs ++ ys)) cut
     (drop-drop (length (drop (length xs - n) (xs ++ ys)) - n) (length xs - n) (xs ++ ys)
     ∙ ap (λ (k : ℕ). drop k (xs ++ ys))
-        (let short = length-drop (length xs - n) (xs ++ ys) in omega (arith, short, long)))
+    (let short = length-drop (length xs - n) (xs ++ ys) in omega (arith, short, long)))
 
 -- a ring of at most n walks
 noted_is_last : (n : ℕ) (x : Walk) (walks : List Walk) → 1 ≤ n → length walks ≤ n → noted n x walks ≡ last_of n (walks ++ x ∷ [])

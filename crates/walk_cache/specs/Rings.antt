@@ -1,7 +1,7 @@
 -- Rings of cached walks: what a kept walk covers, which of them an access finds, and which of them
--- are kept. They are in the place of the walks of the granule protection tables that a TLB may cache
--- (DDI 0487, caching of granule protection table information).
-use Rattle.std.specs.Prelude.{◌≡◌, true, false, ℕ, ◌-◌, ◌*◌, ◌≤◌, Bool, ◌&&◌, List, [], ◌∷◌, ◌++◌, length, drop, reverse, Option, nat_lt, nat_le, if◌then◌else◌}
+-- are kept. They are in the place of the walks of the granule protection tables that a TLB has cached
+-- (DDI 0487, granule protection checks).
+use Rattle.std.specs.Prelude.{◌≡◌, ℕ, ◌+◌, ◌-◌, ◌*◌, ◌/◌, ◌≤◌, Bool, true, false, ◌&&◌, List, [], ◌∷◌, ◌++◌, length, drop, reverse, Option, nat_lt, nat_le, if◌then◌else◌}
 use Rattle.std.specs.List.{find, All}
 use Rattle.gpt_descriptors.specs.declared.size.Size.TheVariants as size
 use Rattle.gpt_descriptors.specs.declared.size.Reach.{Reach}
@@ -18,15 +18,27 @@ reach_bytes reach.Two = size_bytes size.Two
 reach_bytes reach.ThirtyTwo = size_bytes size.ThirtyTwo
 reach_bytes reach.FiveTwelve = size_bytes size.FiveTwelve
 
--- the address is one of those bytes, counted from the walk's first one on
+-- the first address that the entry of this reach around an address covers: it is aligned
+abbrev pub first_around : Reach → ℕ → ℕ
+first_around reach pa = pa / reach_bytes reach * reach_bytes reach
+
+-- the address is one of the bytes of the walk's reach, from its first one on
 abbrev pub covers : Walk → ℕ → Bool
-covers walk pa = nat_le walk.first pa && nat_lt (pa - walk.first) (reach_bytes walk.reach)
+covers walk pa = nat_le walk.first pa && nat_lt pa (walk.first + reach_bytes walk.reach)
 
 -- ---- walks, oldest first
 
 -- the newest walk that covers the address; none where none covers it
 abbrev pub newest_of : List Walk → ℕ → Option Walk
 newest_of walks pa = find (λ walk. covers walk pa) (reverse walks)
+
+-- the walk is one of these, it covers the address, and no walk after it does
+pub record IsLastCovering (walks : List Walk) (pa : ℕ) (walk : Walk) : Type 0 where
+  pub earlier : List Walk
+  pub later : List Walk
+  pub parts : walks ≡ earlier ++ walk ∷ later
+  pub here : covers walk pa ≡ true
+  pub not_later : All (λ other. covers other pa ≡ false) later
 
 -- the last n walks; all of them where there are fewer
 abbrev pub last_of : ℕ → List Walk → List Walk
@@ -42,7 +54,8 @@ abbrev pub all_noted : ℕ → List Walk → List Walk → List Walk
 all_noted ring [] walks = walks
 all_noted ring (walk ∷ later) walks = all_noted ring later (noted ring walk walks)
 
--- a ring of a processor, as plain data: its walks, oldest first, and how many it keeps
+-- ---- a ring as plain data: its walks, oldest first, and how many it keeps
+
 pub record RingData : Type 0 where
   pub walks : List Walk
   pub ring : ℕ
@@ -51,11 +64,3 @@ pub record IsRing (r : RingData) : Type 0 where
   pub low : 1 ≤ r.ring
   pub high : r.ring ≤ most_walks
   pub within : length r.walks ≤ r.ring
-
--- the walk is one of these, it covers the address, and no walk after it does
-pub record IsLastCovering (walks : List Walk) (pa : ℕ) (walk : Walk) : Type 0 where
-  pub earlier : List Walk
-  pub later : List Walk
-  pub parts : walks ≡ earlier ++ walk ∷ later
-  pub here : covers walk pa ≡ true
-  pub not_later : All (λ other. covers other pa ≡ false) later

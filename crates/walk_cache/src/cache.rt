@@ -10,7 +10,7 @@ use std::marker::Model;
 
 /// The ring of a processor's last walks: it keeps up to a number of them, from 1 to 64, and a walk
 /// that is noted in a full ring drops the oldest.
-#[derive(Drop)]
+#[derive(Debug, Drop)]
 pub struct WalkCache {
     walks: HeapCircularBuffer<Walk>,
 }

@@ -12,5 +12,5 @@ pub fn rings_keep_the_last_walks()
     ensures newest { (ring : ℕ) (walk : Walk) (walks : List Walk) (pa : ℕ)
         → 1 ≤ ring → length walks ≤ ring
         → newest_of (noted ring walk walks) pa
-            ≡ (if covers walk pa then Some walk else newest_of (last_of (ring - 1) walks) pa) }
+        ≡ (if covers walk pa then Some walk else newest_of (last_of (ring - 1) walks) pa) }
 {}

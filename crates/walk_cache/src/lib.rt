@@ -1,10 +1,13 @@
 //! The ring of a processor's last walks of the granule protection tables, in the place of the walks
-//! that a TLB may cache (DDI 0487, caching of granule protection table information). Each walk
-//! has the generation that it was made under as its tag. Only `WalkCache::new` takes memory.
+//! that a TLB has cached (DDI 0487, granule protection checks). Each walk has as its tag the
+//! generation that it was made under, so that one from before a change can be told. Only
+//! `WalkCache::new` takes memory.
 #![tactic(auto)]
 
 mod cache;
 mod law;
+#[cfg(test)]
+mod tests;
 mod walk;
 
 pub use cache::WalkCache;

@@ -1,5 +1,5 @@
-ghost use Rattle.std.specs.Prelude.{◌≡◌};
-ghost use Rattle.walk_cache.specs.Rings.{reach_bytes, covers};
+ghost use Rattle.std.specs.Prelude.{◌≡◌, true};
+ghost use Rattle.walk_cache.specs.Rings.{reach_bytes, first_around, covers};
 
 use gpt_descriptors::{Reach, Size};
 
@@ -27,8 +27,26 @@ pub fn reach_bytes(reach: Reach) -> u64
 }
 
 impl Walk {
-    /// Whether the walk covers this byte address: it is at or after the first one, by fewer than
-    /// the bytes of the reach.
+    /// The walk around a byte address that has loaded this word, of this reach, under this
+    /// generation. It covers the aligned bytes of the reach.
+    pub fn around(reach: Reach, pa: u64, word: u64, tag: u64) -> Walk
+        ensures walk { result ≡ record {
+          reach = reach;
+          first = first_around reach pa;
+          word = word;
+          tag = tag;
+        } }
+        ensures covered { covers result pa ≡ true }
+    {
+        Walk {
+            reach,
+            first: pa / reach_bytes(reach) * reach_bytes(reach),
+            word,
+            tag,
+        }
+    }
+
+    /// Whether the walk covers this byte address.
     pub fn covers(&self, pa: u64) -> bool
         ensures { result ≡ covers self.now pa }
     {
