@@ -215,36 +215,38 @@ accesses() {
     }'
 }
 
-# Acts without their report. What they are held against has as many answers, so that it touches the same memory: calls
-# that are answered `inval`, and accesses at the second gigabyte, an L0 block, both without acts. Accesses are at the
-# first gigabyte; an access has 26 bytes at most.
+# Acts without their report: less the same scenario with one turn, and less one with as many answers without acts (calls
+# that are answered `inval`, and accesses at the second gigabyte, an L0 block), which touches the same memory for the
+# first time. The second is what is held against the yardstick, which keeps no answers. An access has 26 bytes.
 if [ -n "${TURNS:-}" ]; then
-    readonly one_looks=$(((most_bytes - 600) / 26)) look_acts=7 block=$gigabyte
+    readonly one_looks=$(((most_bytes - 600) / 26)) look_acts=7 inside=$((1 << 28))
     readonly few_looks=$((one_looks / 2)) many_looks=$((one_looks / 32 - 1))
-    accesses 1 "$one_looks" 0 | scenario access "turn 0 $((one_looks * look_acts))"
-    accesses 1 "$one_looks" "$block" | scenario access_block 'turn 0 1'
-    accesses 2 "$few_looks" 0 | scenario accesses2 "round 1 $((few_looks * look_acts))"
-    accesses 2 "$few_looks" "$block" | scenario accesses2_block 'turn 0 1'
-    accesses 32 "$many_looks" 0 | scenario accesses32 "round 1 $((many_looks * look_acts))"
-    accesses 32 "$many_looks" "$block" | scenario accesses32_block 'turn 0 1'
-    times=$(least_by "$TURNS" one=0 one_refused=0 shared=0 shared_refused=0 access=0 access_block=0 \
-        accesses2=0 accesses2_block=0 accesses32=0 accesses32_block=0)
-    read -r one one_refused shared shared_refused access access_block by2 by2_block by32 by32_block <<<"$times"
+    accesses 1 "$one_looks" "$inside" | scenario access "turn 0 $((one_looks * look_acts))"
+    accesses 1 "$one_looks" "$gigabyte" | scenario idle_access 'turn 0 1'
+    accesses 2 "$few_looks" "$inside" | scenario accesses2 "round 1 $((few_looks * look_acts))"
+    accesses 32 "$many_looks" "$inside" | scenario accesses32 "round 1 $((many_looks * look_acts))"
+    times=$(least_by "$TURNS" one=0 one.one=0 one_refused=0 shared=0 shared.one=0 shared_refused=0 \
+        access=0 access.one=0 idle_access=0 accesses2=0 accesses2.one=0 accesses32=0 accesses32.one=0)
+    read -r one one_one one_idle shared shared_one shared_idle \
+        access access_one access_idle by2 by2_one by32 by32_one <<<"$times"
     readonly access_acts=$((one_looks * look_acts))
     readonly by2_acts=$((2 * few_looks * look_acts)) by32_acts=$((32 * many_looks * look_acts))
     echo
     heading 'each turn an act; no report' acts 'time ms' 'ns/act'
-    row "whole transitions: 1 agent, $one_pairs pairs" "$one_acts" $((one - one_refused))
-    row "32 agents, $shared_pairs pairs each" "$shared_acts" $((shared - shared_refused))
-    row "accesses: 1 processor, $one_looks" "$access_acts" $((access - access_block))
-    row "2 processors, $few_looks each, in turns" "$by2_acts" $((by2 - by2_block))
-    row "32 processors, $many_looks each, in turns" "$by32_acts" $((by32 - by32_block))
-    compare 'an act of 32 agents to one of 1 agent' $((shared - shared_refused)) "$shared_acts" $((one - one_refused)) "$one_acts"
-    compare 'an act of 32 processors to one of 2' $((by32 - by32_block)) "$by32_acts" $((by2 - by2_block)) "$by2_acts"
+    row "whole transitions: 1 agent, $one_pairs pairs" "$one_acts" $((one - one_one))
+    row '  less as many answers' "$one_acts" $((one - one_idle))
+    row "32 agents, $shared_pairs pairs each" "$shared_acts" $((shared - shared_one))
+    row '  less as many answers' "$shared_acts" $((shared - shared_idle))
+    row "accesses: 1 processor, $one_looks" "$access_acts" $((access - access_one))
+    row '  less as many answers' "$access_acts" $((access - access_idle))
+    row "2 processors, $few_looks each, in turns" "$by2_acts" $((by2 - by2_one))
+    row "32 processors, $many_looks each, in turns" "$by32_acts" $((by32 - by32_one))
+    compare 'an act of 32 agents to one of 1 agent' $((shared - shared_one)) "$shared_acts" $((one - one_one)) "$one_acts"
+    compare 'an act of 32 processors to one of 2' $((by32 - by32_one)) "$by32_acts" $((by2 - by2_one)) "$by2_acts"
     if [ -n "${YARDSTICK:-}" ]; then
-        hold act 'an act of 1 agent' $((one - one_refused)) "$one_acts" "$most_act_ratio"
-        hold act 'an act of 32 agents' $((shared - shared_refused)) "$shared_acts" "$most_act_ratio"
-        hold act 'an act of 1 processor' $((access - access_block)) "$access_acts" "$most_act_ratio"
+        hold act 'an act of 1 agent' $((one - one_idle)) "$one_acts" "$most_act_ratio"
+        hold act 'an act of 32 agents' $((shared - shared_idle)) "$shared_acts" "$most_act_ratio"
+        hold act 'an act of 1 processor' $((access - access_idle)) "$access_acts" "$most_act_ratio"
     fi
 fi
 
