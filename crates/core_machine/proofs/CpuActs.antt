@@ -33,9 +33,10 @@ use Rattle.gpt_descriptors.proofs.PlaceLemmas.{generation_named}
 use Rattle.history.specs.Counts.{count_around}
 use Rattle.history.specs.Stamps.{AreStamped, IsStampedCall}
 use Rattle.core_machine.specs.InnerAgentCaller.{comes_before}
-use Rattle.core_machine.specs.InnerCpuCaller.{IsDecided, IsLoaded, cpu_loads, cpu_stamps, duty_at, loads_at, loads_by, stamps_at, stamps_by}
+use Rattle.core_machine.specs.InnerCpuCaller.{DecidedBy, IsLoaded, cpu_loads, cpu_stamps, duty_at, loads_at, loads_by, stamps_at, stamps_by, walk_access}
+use Rattle.history.proofs.StampLemmas.{decided_now, walk_stamped}
 use Rattle.core_machine.proofs.ListLemmas.{get_append, one, some_or_none}
-use Rattle.core_machine.proofs.StampLemmas.{count_grows, idle_unstamped, own_stamps_grow, region_around, starting_loads, starting_stamps}
+use Rattle.core_machine.proofs.StampLemmas.{idle_unstamped, own_stamps_grow, region_around, starting_loads, starting_stamps}
 use Rattle.core_machine.proofs.AddressLemmas.{index_at, word_by_granule, word_readable}
 use Rattle.core_machine.proofs.CallerLemmas.{due_alone, made_at_place, placed_at}
 use Rattle.core_machine.proofs.ActLemmas.{canonical_gives, map_gives}
@@ -223,8 +224,8 @@ walk_keeps {s = s} {c = c} {q = q} {pa = pa} {space = space} k place acting ther
     let y : Size = tag_size_of found.0.reach in
     let loaded : IsLoaded g s.words pa y found.0.lo = subst (IsLoaded g s.words pa y) (sym found.3) (loads_are acting y) in
     let here = map_gives g s pa acting.stands acting.inside ∙ ap Some (sym found.2) in
-    let decided : IsDecided g s.first c (length q.answers) pa space found.0 (s.history ++ e ∷ []) =
-    record { before = s.history; after = []; parts = refl; least = loaded.0; low = omega (arith, loaded.1, (counted_now acting y).0); gives = here } in
+    let decided : DecidedBy g s.first c (length q.answers) pa space found.0 (s.history ++ e ∷ []) =
+    decided_now s.first g.setup.first (granule_bytes g.setup) c (length q.answers) _ space found.0.gpi _ None found.0.reach found.0.lo s.history _ refl here loaded.0 (omega (arith, loaded.1, (counted_now acting y).0)) tt in
     let answered = (own_stamps_grow s.first s.history (e ∷ []) c (caller.Cpu (goes_to q (stage.Walking k))) (acting.stands.stamps c (caller.Cpu (goes_to q (stage.Walking k))) acting.at)).0 in
     let writes = writes_none g s.words in (
       readable,
@@ -301,33 +302,9 @@ closed_stamped : {s : Scene} {c : ℕ} {q : CpuData} {pa : ℕ} {space : Space} 
 closed_stamped {s = s} {c = c} {q = q} {pa = pa} {space = space} w acting =
     let g = q.geometry in
     let y : Size = tag_size_of w.reach in
-    let decided = decided_is acting in
     let loads = loads_are acting in
     let now = counted_now acting y in
-    let e : Entry = looked_entry g c (length q.answers) pa space w.gpi in
-    let grown = count_grows g.setup.first (granule_bytes g.setup) (granule_number g.setup pa) y decided.before (e ∷ decided.after) in
-    let same = ap (λ (h : List Entry). count_around g.setup.first (granule_bytes g.setup) (granule_number g.setup pa) h y) decided.parts in
-    record {
-      before = decided.before;
-      after = decided.after;
-      parts = decided.parts;
-      stamps = (
-        record {
-          least = decided.least;
-          order = loads.1;
-          low = decided.low;
-          high = omega (arith, grown, same, now.1);
-          most = now.0;
-          saw = record {
-            number = count_around g.setup.first (granule_bytes g.setup) (granule_number g.setup pa) decided.before y;
-            low = decided.low;
-            high = omega (arith, grown, same, now.1);
-            gave = record { before = decided.before; after = e ∷ decided.after; parts = decided.parts; counted = refl; gives = decided.gives };
-          };
-        },
-        decided.gives,
-      );
-    }
+    walk_stamped s.first g.setup.first (granule_bytes g.setup) c (length q.answers) _ space (walk_access space w _) None w.reach w.lo _ s.history refl loads.1 now.0 now.1 (decided_is acting)
 
 -- the access is answered, and those after it that have no acts
 answered_stamped : {s : Scene} {c : ℕ} {q : CpuData} {pa : ℕ} {space : Space} (w : Walk) (hi : ℕ) (acting : Accessing s c q pa space (stage.Leaving w hi))

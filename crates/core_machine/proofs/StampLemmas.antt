@@ -1,35 +1,27 @@
 -- The generations that accesses have loaded, and the stamps of accesses: what later acts leave of them.
-use Rattle.std.proofs.Common.{◌≡◌, ℕ, zero, suc, ◌*◌, ◌/◌, ◌≤◌, ◌<◌, ◌++◌, ◌∷◌, [], List, ◌&&◌, eqb, Option, Some, None, length, set, refl, sym, ap, ◌∙◌, subst, arith, inl, inr, append_assoc}
+use Rattle.std.proofs.Common.{◌≡◌, ℕ, zero, suc, ◌*◌, ◌/◌, ◌≤◌, ◌<◌, ◌++◌, ◌∷◌, [], List, Option, Some, None, length, set, refl, sym, ap, ◌∙◌, subst, arith, inl, inr}
 use Rattle.std.specs.Prelude.{slice_get, slice_index}
 use Rattle.std.proofs.lemmas.Bool.{cases_eq}
 use Rattle.std.proofs.lemmas.List.{get_or-set_other, get_or-set_same}
-use Rattle.std.proofs.lemmas.List.Sums.{sum_by-append}
 use Rattle.std.proofs.Math.Nat.{mul_comm, div-div-eq-div-mul}
-use Rattle.core_machine.proofs.Names.{Gpi, Size, SetupData, granule_bytes, size_bytes, space_bytes, words_of, GeometryData, gen_place_of, blocks_in_region, generation_word, Task, Answer, Entry, granule_in, region_of, Caller, IsMade, number_by, generation_in}
+use Rattle.core_machine.proofs.Names.{Gpi, Size, SetupData, granule_bytes, size_bytes, space_bytes, words_of, GeometryData, gen_place_of, blocks_in_region, generation_word, Task, Answer, Entry, region_of, Caller, IsMade, number_by, generation_in}
 use Rattle.core_machine.proofs.Names.task
-use Rattle.core_machine.proofs.Names.answer
 use Rattle.core_machine.proofs.Names.caller
 use Rattle.gpi_values.specs.declared.gpi.Space.{Space}
-use Rattle.gpt_descriptors.specs.declared.size.Reach.{Reach}
 use Rattle.gpt_descriptors.specs.Sizes.{word_bytes, tag_size_of}
 use Rattle.gpt_descriptors.specs.Places.{block_gpi_of}
 use Rattle.gpt_descriptors.proofs.SizeLemmas.{words_whole}
 use Rattle.gpt_descriptors.proofs.PlaceLemmas.{generation_named}
-use Rattle.history.specs.declared.call.Access.{Access}
-use Rattle.history.specs.declared.call.Via.{Via}
-use Rattle.history.specs.declared.call.Via.TheVariants as via
-use Rattle.history.specs.Counts.{is_change, count_around}
-use Rattle.history.specs.Stamps.{AreStamps, FitStamps, IsStamped, IsStampedCall}
-use Rattle.processor.specs.declared.walk.Walk.{Walk}
+use Rattle.history.specs.Stamps.{IsStampedCall}
+use Rattle.history.proofs.StampLemmas.{decided_later, stamped_later, stamped_calls_later, still_call}
 use Rattle.processor.specs.Accesses.{IsAccess, block_answer}
 use Rattle.processor.specs.InnerProgress.{Stage}
 use Rattle.processor.specs.InnerProgress as stage
 use Rattle.processor.specs.InnerCpus.{answered_first, idle_answer, idle_answers, task_of}
 use Rattle.processor.proofs.CpuLemmas.{access_at, some_mapped}
-use Rattle.core_machine.specs.InnerCpuCaller.{IsDecided, IsLoaded, loads_at, loads_by, stamps_at, stamps_by}
+use Rattle.core_machine.specs.InnerCpuCaller.{IsLoaded, loads_at, loads_by, stamps_at, stamps_by}
 use Rattle.core_machine.specs.InnerCallers.{HasLoaded, HasOwnStamps}
 use Rattle.core_machine.proofs.AddressLemmas.{granule_back, word_by_granule}
-use Rattle.core_machine.proofs.ListLemmas.{one}
 
 -- ---- generations only rise
 
@@ -69,75 +61,9 @@ caller_loads_rise g words after (caller.Cpu q) made rises loads =
 
 -- ---- histories only grow
 
-pub count_grows : (first bytes granule : ℕ) (z : Size) (h made : List Entry) → count_around first bytes granule h z ≤ count_around first bytes granule (h ++ made) z
-count_grows first bytes granule z h made =
-    let split = sum_by-append (λ (e : Entry). one (is_change e && (eqb (region_of bytes z (granule_in e)) (region_of bytes z granule)))) h made in
-    omega (arith, split)
-
-pub parts_grow : (h before after made : List Entry) (e : Entry) → h ≡ before ++ e ∷ after → h ++ made ≡ before ++ e ∷ (after ++ made)
-parts_grow h before after made e parts = ap (λ (es : List Entry). es ++ made) parts ∙ append_assoc before (e ∷ after) made
-
-stamps_grow : (map : List Gpi) (first bytes granule : ℕ) (gpi : Gpi) (reach : Reach) (lo hi : ℕ) (before h made : List Entry) → AreStamps map first bytes granule gpi reach lo hi before h → AreStamps map first bytes granule gpi reach lo hi before (h ++ made)
-stamps_grow map first bytes granule gpi reach lo hi before h made stamps =
-    let gave = stamps.saw.gave in
-    record {
-      least = stamps.least;
-      order = stamps.order;
-      low = stamps.low;
-      high = stamps.high;
-      most = omega (arith, stamps.most, count_grows first bytes granule (tag_size_of reach) h made);
-      saw = record {
-        number = stamps.saw.number;
-        low = stamps.saw.low;
-        high = stamps.saw.high;
-        gave = record {
-          before = gave.before;
-          after = gave.after ++ made;
-          parts = ap (λ (es : List Entry). es ++ made) gave.parts ∙ append_assoc gave.before gave.after made;
-          counted = gave.counted;
-          gives = gave.gives;
-        };
-      };
-    }
-
-fit_grow : (map : List Gpi) (first bytes granule : ℕ) (gpi : Gpi) (v : Via) (before h made : List Entry) → FitStamps map first bytes granule gpi v before h → FitStamps map first bytes granule gpi v before (h ++ made)
-fit_grow map first bytes granule gpi via.Still before h made fit = absurd fit
-fit_grow map first bytes granule gpi (via.Hit reach at) before h made fit = stamps_grow map first bytes granule gpi reach at at before h made fit
-fit_grow map first bytes granule gpi (via.Cold reach lo hi) before h made fit = (stamps_grow map first bytes granule gpi reach lo hi before h made fit.0, fit.1)
-fit_grow map first bytes granule gpi (via.Missed reach tag at fresh lo hi) before h made fit = (stamps_grow map first bytes granule gpi fresh lo hi before h made fit.0, fit.1, fit.2)
-
-stamped_grow : (map : List Gpi) (first bytes c k granule : ℕ) (space : Space) (access : Access) (h made : List Entry) → IsStamped map first bytes c k granule space access h → IsStamped map first bytes c k granule space access (h ++ made)
-stamped_grow map first bytes c k granule space access h made stamped = record {
-  before = stamped.before;
-  after = stamped.after ++ made;
-  parts = parts_grow h stamped.before stamped.after made _ stamped.parts;
-  stamps = fit_grow map first bytes granule access.gpi access.via stamped.before h made stamped.stamps;
-}
-
-call_grows : (map : List Gpi) (first bytes c k : ℕ) (t : Task) (given : Answer) (h made : List Entry) → IsStampedCall map first bytes c k t given h → IsStampedCall map first bytes c k t given (h ++ made)
-call_grows map first bytes c k (task.Look pa space) (answer.Seen access) h made call = λ walked. stamped_grow map first bytes c k (pa / bytes) space access h made (call walked)
-call_grows map first bytes c k (task.Look pa space) (answer.Done given) h made call = tt
-call_grows map first bytes c k (task.Look pa space) (answer.Worn z value) h made call = tt
-call_grows map first bytes c k (task.Look pa space) (answer.Perm found) h made call = tt
-call_grows map first bytes c k (task.Look pa space) answer.Inval h made call = tt
-call_grows map first bytes c k (task.Look pa space) answer.Unknown h made call = tt
-call_grows map first bytes c k (task.Delegate pa source) given h made call = tt
-call_grows map first bytes c k (task.Undelegate pa source) given h made call = tt
-call_grows map first bytes c k task.Unknown given h made call = tt
-
-decided_grows : (g : GeometryData) (map : List Gpi) (c k pa : ℕ) (space : Space) (w : Walk) (h made : List Entry) → IsDecided g map c k pa space w h → IsDecided g map c k pa space w (h ++ made)
-decided_grows g map c k pa space w h made decided = record {
-  before = decided.before;
-  after = decided.after ++ made;
-  parts = parts_grow h decided.before decided.after made _ decided.parts;
-  least = decided.least;
-  low = decided.low;
-  gives = decided.gives;
-}
-
 at_grows : (g : GeometryData) (map : List Gpi) (c k pa : ℕ) (space : Space) (s : Stage) (h made : List Entry) → stamps_at g map c k pa space s h → stamps_at g map c k pa space s (h ++ made)
-at_grows g map c k pa space (stage.Closing w) h made stamps = decided_grows g map c k pa space w h made stamps
-at_grows g map c k pa space (stage.Leaving w hi) h made stamps = stamped_grow map g.setup.first (granule_bytes g.setup) c k _ space _ h made stamps
+at_grows g map c k pa space (stage.Closing w) h made stamps = decided_later map g.setup.first (granule_bytes g.setup) c k _ space w.gpi _ None w.reach w.lo h made _ refl stamps
+at_grows g map c k pa space (stage.Leaving w hi) h made stamps = stamped_later map g.setup.first (granule_bytes g.setup) c k _ space _ h made _ refl stamps
 at_grows g map c k pa space s h made stamps = tt
 
 by_grows : (g : GeometryData) (map : List Gpi) (c k : ℕ) (s : Stage) (o : Option Task) (h made : List Entry) → stamps_by g map c k s o h → stamps_by g map c k s o (h ++ made)
@@ -148,7 +74,7 @@ by_grows g map c k s o h made stamps = tt
 pub own_stamps_grow : (map : List Gpi) (h made : List Entry) (c : ℕ) (x : Caller) → HasOwnStamps map h c x → HasOwnStamps map (h ++ made) c x
 own_stamps_grow map h made c (caller.Agent a) stamps = tt
 own_stamps_grow map h made c (caller.Cpu q) stamps = (
-  λ k t given asked answered. call_grows map q.geometry.setup.first (granule_bytes q.geometry.setup) c k t given h made (stamps.0 k t given asked answered),
+  stamped_calls_later map q.geometry.setup.first (granule_bytes q.geometry.setup) c q.tasks q.answers h made _ refl stamps.0,
   by_grows q.geometry map c (length q.answers) q.stage (task_of q) h made stamps.1,
 )
 
@@ -176,17 +102,10 @@ starting_stamps g map c k (Some (task.Delegate pa source)) h = tt
 starting_stamps g map c k (Some (task.Undelegate pa source)) h = tt
 starting_stamps g map c k (Some task.Unknown) h = tt
 
--- an answer by an L0 block has no stamps
-block_unstamped : (map : List Gpi) (first bytes c k : ℕ) (t : Task) (space : Space) (gpi : Gpi) (h : List Entry) → IsStampedCall map first bytes c k t (block_answer space gpi) h
-block_unstamped map first bytes c k (task.Look pa asked) space gpi h = λ walked. absurd cc
-block_unstamped map first bytes c k (task.Delegate pa source) space gpi h = tt
-block_unstamped map first bytes c k (task.Undelegate pa source) space gpi h = tt
-block_unstamped map first bytes c k task.Unknown space gpi h = tt
-
 idle_one : (g : GeometryData) (map : List Gpi) (first bytes c k : ℕ) (u t : Task) (given : Answer) (h : List Entry) → idle_answer g u ≡ Some given → IsStampedCall map first bytes c k t given h
 idle_one g map first bytes c k (task.Look pa space) t given h idle =
     let block = some_mapped (block_answer space) (block_gpi_of g pa) given idle in
-    subst (λ (a : Answer). IsStampedCall map first bytes c k t a h) block.2 (block_unstamped map first bytes c k t space block.0 h)
+    subst (λ (a : Answer). IsStampedCall map first bytes c k t a h) block.2 (still_call map first bytes c k t _ h refl)
 idle_one g map first bytes c k u t given h idle = absurd cc
 
 idle_head : (g : GeometryData) (map : List Gpi) (first bytes c k i : ℕ) (u t : Task) (o : Option Answer) (rest : List Answer) (given : Answer) (h : List Entry) → idle_answer g u ≡ o

@@ -1,5 +1,5 @@
 -- A processor as a caller: what each fact of the core reads of it.
-use Rattle.std.specs.Prelude.{◌≡◌, ℕ, ◌-◌, ◌≤◌, Bool, true, false, List, [], ◌∷◌, ◌++◌, length, slice_index, Option, Some}
+use Rattle.std.specs.Prelude.{◌≡◌, ℕ, ◌-◌, ◌≤◌, Bool, true, false, List, [], length, slice_index, Option, Some, None}
 use Rattle.gpi_values.specs.declared.gpi.Gpi.{Gpi}
 use Rattle.gpt_descriptors.specs.declared.size.Size.{Size}
 use Rattle.gpi_values.specs.declared.gpi.Space.{Space}
@@ -11,15 +11,13 @@ use Rattle.table_meaning.specs.Equation.{Holder, Whole}
 use Rattle.history.specs.declared.call.Task.{Task}
 use Rattle.history.specs.declared.call.Task.TheVariants as task
 use Rattle.history.specs.declared.call.Access.{Access}
-use Rattle.history.specs.declared.call.Via.TheVariants as via
 use Rattle.history.specs.declared.call.Answer.{Answer}
 use Rattle.history.specs.declared.entry.Entry.{Entry}
-use Rattle.history.specs.Counts.{count_around}
-use Rattle.history.specs.Stamps.{IsStamped, AreStamped, gpi_after}
+use Rattle.history.specs.Stamps.{IsStamped, AreStamped}
+use Rattle.history.specs.InnerStamps.{IsDecided, walked}
 use Rattle.history.specs.Events.{CallEvent}
 pub use Rattle.processor.specs.InnerCpus.{duty_at}
 use Rattle.processor.specs.declared.walk.Walk.{Walk}
-use Rattle.processor.specs.Accesses.{looked_entry}
 use Rattle.processor.specs.InnerProgress.{Stage}
 use Rattle.processor.specs.InnerProgress as stage
 use Rattle.processor.specs.InnerCpus.{CpuData, IsCpu, IsReadable, task_of, fresh, next_of, took_of}
@@ -95,28 +93,22 @@ loads_by g words s o = Unit {0}
 abbrev pub cpu_loads : List ℕ → CpuData → Type 0
 cpu_loads words q = loads_by q.geometry words q.stage (task_of q)
 
--- Access k of caller c, which this walk has decided, has its entry in the history. The generation
--- that it has loaded is at least the first one, and at most the count before its entry.
-pub record IsDecided (g : GeometryData) (map : List Gpi) (c k pa : ℕ) (space : Space) (w : Walk)
-    (h : List Entry) : Type 0 where
-  pub before : List Entry
-  pub after : List Entry
-  pub parts : h ≡ before ++ looked_entry g c k pa space w.gpi ∷ after
-  pub least : g.setup.first ≤ w.lo
-  pub low : w.lo ≤ count_around g.setup.first (granule_bytes g.setup)
-      (granule_number g.setup pa) before (tag_size_of w.reach)
-  pub gives : gpi_after map before (granule_number g.setup pa) ≡ Some w.gpi
+-- access k of caller c was decided by this walk, and has its entry in the history
+abbrev pub DecidedBy : GeometryData → List Gpi → ℕ → ℕ → ℕ → Space → Walk → List Entry → Type 0
+DecidedBy g map c k pa space w h =
+    IsDecided map g.setup.first (granule_bytes g.setup) c k (granule_number g.setup pa) space w.gpi
+    (permits_of w.gpi space) None w.reach w.lo h
 
 abbrev pub walk_access : Space → Walk → ℕ → Access
 walk_access space w hi = record {
   allowed = permits_of w.gpi space;
   gpi = w.gpi;
   level = 1;
-  via = via.Cold w.reach w.lo hi;
+  via = walked None w.reach w.lo hi;
 }
 
 abbrev pub stamps_at : GeometryData → List Gpi → ℕ → ℕ → ℕ → Space → Stage → List Entry → Type 0
-stamps_at g map c k pa space (stage.Closing w) h = IsDecided g map c k pa space w h
+stamps_at g map c k pa space (stage.Closing w) h = DecidedBy g map c k pa space w h
 stamps_at g map c k pa space (stage.Leaving w hi) h =
     IsStamped map g.setup.first (granule_bytes g.setup) c k (granule_number g.setup pa) space
     (walk_access space w hi) h
