@@ -12,6 +12,7 @@ use Rattle.history.specs.declared.call.Task.{Task}
 use Rattle.history.specs.declared.call.Answer.{Answer}
 use Rattle.history.specs.declared.entry.Entry.{Entry}
 use Rattle.delegate_ops.specs.InnerAgents.{next_of, took_of, IsReadable}
+use Rattle.delegate_ops.specs.InnerRuns.{IsStoring}
 use Rattle.core_machine.specs.declared.caller.Caller.{Caller}
 use Rattle.core_machine.specs.declared.caller.Caller.TheVariants as caller
 use Rattle.core_machine.specs.InnerAgentCaller.{IsAgentOf, agent_made, agent_fresh, agent_left, agent_known, agent_makes, agent_own, agent_holds, agent_opens, agent_owes, agent_holder, agent_sees}
@@ -109,6 +110,11 @@ caller_stored (suc n) x = caller_took (caller_stored n x) 0
 abbrev pub AreNext : StoreRun → Caller → Type 0
 AreNext run x =
     (k : ℕ) → k < run.count → caller_next (caller_stored k x) ≡ Some (store_in run k)
+
+-- the next act is a store of a splitting or of merging
+abbrev pub StoresNext : Caller → Type 0
+StoresNext (caller.Agent a) = IsStoring a.stage
+StoresNext (caller.Cpu q) = ⊥
 
 -- ---- entries
 

@@ -1,7 +1,9 @@
 ghost use Rattle.std.specs.Prelude.{◌≡◌, ◌+◌, ◌^◌, ◌<◌, ◌≤◌, IsSome, false};
 ghost use Rattle.shared_words.specs.Next.{old_by, words_after, MayBeMade};
 ghost use Rattle.delegate_ops.specs.InnerAgents.{IsStill};
-ghost use Rattle.core_machine.specs.InnerCallers.{caller_next, caller_took, caller_waits, caller_answers, caller_left, MayTake, caller_stored, AreNext};
+ghost use Rattle.core_machine.specs.InnerCallers.{caller_next, caller_took, caller_waits, MayTake};
+ghost use Rattle.core_machine.specs.InnerCallers.{caller_answers, caller_left};
+ghost use Rattle.core_machine.specs.InnerCallers.{caller_stored, AreNext, StoresNext};
 
 use delegate_ops::Agent;
 use history::Answer;
@@ -44,7 +46,8 @@ impl Caller {
     pub fn turn<W: Words>(&mut self, words: &mut W) -> bool
         requires place { MayBeMade (caller_next self.old) (W.words words.old) }
         requires readable { MayTake self.old (old_by (caller_next self.old) (W.words words.old)) }
-        ensures words { W.words words.new ≡ words_after (caller_next self.old) (W.words words.old) }
+        ensures words { W.words words.new
+            ≡ words_after (caller_next self.old) (W.words words.old) }
         ensures after { self.new
             ≡ caller_took self.old (old_by (caller_next self.old) (W.words words.old)) }
         ensures still { result ≡ false
@@ -57,13 +60,14 @@ impl Caller {
     }
 
     /// Its next stores of one value at places one after another, at most this number, as one run.
-    /// The caller goes on as after them, and the words are still to be stored. The run is empty
-    /// where the next act isn't a store of a splitting or of merging.
+    /// The caller goes on as after them, and the words are still to be stored. The run isn't
+    /// empty where the next act is a store of a splitting or of merging, and this number isn't 0.
     #[tactic(auto, using(crate::proofs::StoreLemmas::caller_runs))]
     pub fn take_run(&mut self, most: usize) -> StoreRun
         ensures next { AreNext result self.old }
         ensures after { self.new ≡ caller_stored result.count self.old }
         ensures most { result.count ≤ most }
+        ensures some { 0 < most → StoresNext self.old → 0 < result.count }
         ensures room { result.first + result.count < 2 ^ 64 }
     {
         match self {

@@ -1,9 +1,14 @@
-ghost use Rattle.std.specs.Prelude.{◌≡◌, ◌<◌, ◌≤◌, ℕ, List, [], ◌++◌, length, replicate, false};
+ghost use Rattle.std.specs.Prelude.{◌≡◌, ◌<◌, ◌≤◌, ℕ, List, [], ◌++◌, length, slice_get, replicate};
+ghost use Rattle.std.specs.Prelude.{Some, false};
 ghost use Rattle.std.specs.List.{All};
 ghost use Rattle.gpi_values.specs.declared.gpi.Gpi.{Gpi};
 ghost use Rattle.core_machine.specs.InnerInvariant.{NumbersDiffer};
 ghost use Rattle.core_machine.specs.InnerOpening.{IsFresh, AreStarting};
-ghost use Rattle.core_machine.specs.InnerMachine.{InvariantFor, HasInvariant, KeepsInvariant, after_turn, after_turns, turn_entries, trace_of, MachineData, machine_of};
+ghost use Rattle.core_machine.specs.declared.caller.Caller.{Caller as TheCaller};
+ghost use Rattle.core_machine.specs.InnerCallers.{StoresNext};
+ghost use Rattle.core_machine.specs.InnerMachine.{InvariantFor, HasInvariant, KeepsInvariant};
+ghost use Rattle.core_machine.specs.InnerMachine.{after_turn, after_turns, turn_entries, trace_of};
+ghost use Rattle.core_machine.specs.InnerMachine.{MachineData, machine_of};
 ghost use Rattle.core_machine.specs.Trace.{history_of};
 ghost use Rattle.delegate_ops.specs.InnerAgents.{fresh};
 
@@ -70,9 +75,9 @@ impl<W: Words> Machine<W> {
         self.step(caller);
     }
 
-    /// Turns of a caller in which it makes a run of stores of a splitting or of merging, at most this
-    /// number, and how many they were: none where its next act isn't such a store. They are as good
-    /// as the same number of single turns.
+    /// Turns of a caller in which it makes a run of stores, at most this number, and how many they
+    /// were: not none where its next act is a store of a splitting or of merging. They are as good as
+    /// the same number of single turns.
     pub fn run(&mut self, caller: usize, most: u32) -> u32
         requires caller { caller < length self.old.callers }
         requires invariant { HasInvariant self.old }
@@ -80,6 +85,8 @@ impl<W: Words> Machine<W> {
         ensures invariant { KeepsInvariant self.old self.new
             (history_of (trace_of self.old (replicate result caller))) }
         ensures most { result ≤ most }
+        ensures some { (x : TheCaller) → slice_get self.old.callers caller ≡ Some x → 0 < most
+            → StoresNext x → 0 < result }
     {
         let run = self.callers[caller].take_run(most as usize);
         if run.count == 0 {

@@ -1,5 +1,5 @@
 -- A transition by where its acts are made: places that are worked out once, when its call begins.
-use Rattle.std.specs.Prelude.{◌≡◌, ℕ, ◌+◌, Bool, false, not, ◌==◌, true, ◌&&◌, Option, Some, None, IsTrue, is_some, if◌then◌else◌}
+use Rattle.std.specs.Prelude.{◌≡◌, ℕ, ◌+◌, Bool, false, not, ◌==◌, true, ◌&&◌, List, Option, Some, None, IsTrue, is_some, if◌then◌else◌}
 use Rattle.std.specs.Int.Bits.{bit_and}
 use Rattle.gpi_values.specs.Values.{value_of}
 use Rattle.gpt_descriptors.specs.declared.size.Size.{Size}
@@ -10,6 +10,7 @@ use Rattle.gpt_descriptors.specs.Fields.{with_field}
 use Rattle.gpt_descriptors.specs.Places.{GeometryData, IsGeometry, l1_place_of, gen_place_of}
 use Rattle.shared_words.specs.declared.act.Act.{Act}
 use Rattle.shared_words.specs.declared.act.Act.TheVariants as act
+use Rattle.shared_words.specs.Next.{old_by}
 use Rattle.bit_locks.specs.Locks.{take_act, release_act}
 use Rattle.history.specs.declared.call.Task.{Task}
 use Rattle.history.specs.declared.call.Task.TheVariants as task
@@ -129,6 +130,13 @@ pub record IsTransition (g : GeometryData) (d : TransitionData) : Type 0 where
 abbrev pub at_progress : Task → Places → Progress → TransitionData
 at_progress t p q =
     record { task = t; places = p; stage = stage_of q; waited = waits_in q.phase }
+
+-- its next act, and what that answers on these words
+abbrev pub next_in : Task → Places → Progress → Option Act
+next_in t p q = next_by (at_progress t p q)
+
+abbrev pub old_in : Task → Places → Progress → List ℕ → ℕ
+old_in t p q words = old_by (next_in t p q) words
 
 -- it is at this stage, and doesn't wait
 abbrev pub GoesTo : Progress → Stage → Type 0

@@ -1,8 +1,12 @@
-ghost use Rattle.std.specs.Prelude.{◌≡◌, ◌<◌, ◌^◌, ◌+◌, ◌-◌, ◌≤◌, ◌++◌, IfOk, IfSome, IsSome, IsTrue, is_some, not, Some, None, length, drop, false, slice_get, vec_capacity};
+ghost use Rattle.std.specs.Prelude.{◌≡◌, ◌<◌, ◌^◌, ◌+◌, ◌-◌, ◌≤◌, ◌++◌, IfOk, IfSome, IsSome};
+ghost use Rattle.std.specs.Prelude.{IsTrue, is_some, not, Some, None, length, drop, false};
+ghost use Rattle.std.specs.Prelude.{slice_get, vec_capacity};
 ghost use Rattle.std.specs.List.{All};
 ghost use Rattle.std.specs.Option.{option_map};
 ghost use Rattle.delegate_ops.specs.Deciding.{idle_answer};
-ghost use Rattle.delegate_ops.specs.InnerAgents.{is_look, task_of, fresh, idle_answers, has_ended, next_of, after_answer, took_of, IsStill, HasActs, IsReadable};
+ghost use Rattle.delegate_ops.specs.InnerAgents.{is_look, task_of, fresh, idle_answers, has_ended};
+ghost use Rattle.delegate_ops.specs.InnerAgents.{next_of, after_answer, took_of, IsStill, HasActs};
+ghost use Rattle.delegate_ops.specs.InnerAgents.{IsReadable};
 ghost use Rattle.delegate_ops.specs.InnerTransition.{begun, IsUnderWay};
 ghost use Rattle.delegate_ops.specs.InnerRuns.{stored_by, AreNext, IsStoring};
 ghost use Rattle.shared_words.specs.Next.{old_by, words_after, MayBeMade};
@@ -188,8 +192,8 @@ impl Agent {
     }
 
     /// Its next stores of one value at places one after another, at most this number, as one run.
-    /// It goes on as after them; they are still to be made on the words. The run is empty where the
-    /// next act isn't a store of a splitting or of merging, or where this number is 0.
+    /// It goes on as after them; they are still to be made on the words. The run isn't empty where
+    /// the next act is a store of a splitting or of merging, and this number isn't 0.
     pub fn take_run(&mut self, most: usize) -> StoreRun
         ensures next { AreNext result self.old }
         ensures after { self.new ≡ stored_by result.count self.old }

@@ -1,18 +1,23 @@
-ghost use Rattle.std.specs.Prelude.{◌≡◌, ◌+◌, ◌^◌, ◌<◌, ◌≤◌, ◌==◌, not, if◌then◌else◌, IsSome, IsTrue, is_some, None};
+ghost use Rattle.std.specs.Prelude.{◌≡◌, ◌+◌, ◌^◌, ◌<◌, ◌≤◌, ◌==◌, not, if◌then◌else◌, IsSome};
+ghost use Rattle.std.specs.Prelude.{IsTrue, is_some, None};
 ghost use Rattle.std.specs.Int.Bits.{bit_and};
 ghost use Rattle.gpt_descriptors.specs.Entries.{l1_entry, word_gpi};
 ghost use Rattle.gpt_descriptors.specs.Places.{GeometryData, l1_index_of};
 ghost use Rattle.shatter.specs.Splitting.{next_store, advanced};
-ghost use Rattle.shared_words.specs.Next.{old_by, words_after, MayBeMade};
+ghost use Rattle.shared_words.specs.Next.{words_after, MayBeMade};
 ghost use Rattle.fuse.specs.Merging.{took_of, next_of, fuse_of};
 ghost use Rattle.delegate_ops.specs.Deciding.{address_of, idle_answer, refusal_of, worn_answer};
 ghost use Rattle.delegate_ops.specs.InnerStages.{stage_of, waits_in, kept_read};
 ghost use Rattle.delegate_ops.specs.InnerStages as stage;
 ghost use Rattle.delegate_ops.specs.declared.stage.Phase.TheVariants as the_phase;
-ghost use Rattle.delegate_ops.specs.InnerAgents.{IsReadable, number_of, looked_stage, loaded_stage, read_all, read_stage, split_stage, merged_stage, raised_stage, stage_after};
+ghost use Rattle.delegate_ops.specs.InnerAgents.{IsReadable, number_of, looked_stage, loaded_stage};
+ghost use Rattle.delegate_ops.specs.InnerAgents.{read_all, read_stage, split_stage, merged_stage};
+ghost use Rattle.delegate_ops.specs.InnerAgents.{raised_stage, stage_after};
 ghost use Rattle.delegate_ops.specs.InnerRuns.{IsStoring, MakesRun};
 ghost use Rattle.delegate_ops.specs.declared.places.Places.{Places as ThePlaces};
-ghost use Rattle.delegate_ops.specs.InnerTransition.{IsTransition, act_by, answer_by, after_by, at_progress, turned_by, GoesTo};
+ghost use Rattle.delegate_ops.specs.InnerTransition.{IsTransition, act_by, answer_by, after_by};
+ghost use Rattle.delegate_ops.specs.InnerTransition.{next_in, old_in, at_progress, turned_by};
+ghost use Rattle.delegate_ops.specs.InnerTransition.{GoesTo};
 
 use crate::blocks::{merging_of, splitting_of};
 use crate::changing::{changed_word, first_change};
@@ -302,7 +307,7 @@ impl Progress {
     }
 
     /// The next stores of a splitting or of merging, at most this number, as one run. It goes
-    /// on as after them. The run is empty where the next act isn't such a store.
+    /// on as after them. It isn't empty where the next act is such a store.
     pub fn take_run(&mut self, task: Task, most: usize) -> StoreRun
         ensures run { (p : ThePlaces)
             → MakesRun (at_progress task p self.old) result (at_progress task p self.new) }
@@ -340,16 +345,16 @@ impl Progress {
         words: &mut W,
     ) -> Turned
         requires transition { IsTransition geometry.now (at_progress task places.now self.old) }
-        requires place { MayBeMade (act_by places.now (stage_of self.old) task) (W.words words.old) }
+        requires place { MayBeMade (next_in task places.now self.old) (W.words words.old) }
         requires readable { IsReadable (stage_of self.old)
-            (old_by (act_by places.now (stage_of self.old) task) (W.words words.old)) }
+            (old_in task places.now self.old (W.words words.old)) }
         ensures words { W.words words.new
-            ≡ words_after (act_by places.now (stage_of self.old) task) (W.words words.old) }
+            ≡ words_after (next_in task places.now self.old) (W.words words.old) }
         ensures after { at_progress task places.now self.new
             ≡ after_by geometry.now (at_progress task places.now self.old)
-            (old_by (act_by places.now (stage_of self.old) task) (W.words words.old)) }
+            (old_in task places.now self.old (W.words words.old)) }
         ensures turned { result ≡ turned_by (at_progress task places.now self.old)
-            (old_by (act_by places.now (stage_of self.old) task) (W.words words.old)) }
+            (old_in task places.now self.old (W.words words.old)) }
     {
         match self.phase {
             Phase::Locking => {

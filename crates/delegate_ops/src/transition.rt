@@ -109,8 +109,8 @@ impl Transition {
     }
 
     /// Its next stores of one value at places one after another, at most this number, as one run.
-    /// It goes on as after them; they are still to be made on the words. The run is empty where the
-    /// next act isn't a store of a splitting or of merging.
+    /// It goes on as after them; they are still to be made on the words. The run isn't empty where
+    /// the next act is a store of a splitting or of merging, and this number isn't 0.
     pub fn take_run(&mut self, most: usize) -> StoreRun
         ensures run { MakesRun self.old result self.new }
         ensures most { result.count ≤ most }

@@ -1,5 +1,5 @@
 -- An access under way: its next act, and where that leaves it.
-use Rattle.std.specs.Prelude.{ℕ, Bool, true, false, Option, Some, None}
+use Rattle.std.specs.Prelude.{ℕ, Bool, true, false, List, Option, Some, None}
 use Rattle.std.specs.Option.{option_map}
 use Rattle.gpi_values.specs.declared.gpi.Space.{Space}
 use Rattle.gpt_descriptors.specs.declared.size.Size.{Size}
@@ -9,6 +9,7 @@ use Rattle.gpt_descriptors.specs.Sizes.{tag_size_of, with_generation}
 use Rattle.gpt_descriptors.specs.Places.{GeometryData, l1_place_of}
 use Rattle.shared_words.specs.declared.act.Act.{Act}
 use Rattle.shared_words.specs.declared.act.Act.TheVariants as act
+use Rattle.shared_words.specs.Next.{old_by}
 use Rattle.invalidate.specs.Duty.{on_act, off_act}
 use Rattle.invalidate.specs.Generations.{gen_load_of}
 use Rattle.history.specs.declared.call.Answer.{Answer}
@@ -81,3 +82,10 @@ stage_at phase.Leaving d = Leaving d.walk d.hi
 
 abbrev pub stage_of : Progress → Stage
 stage_of d = stage_at d.phase d
+
+-- its next act, and what that answers on these words
+abbrev pub next_in : GeometryData → ℕ → ℕ → Progress → Option Act
+next_in g p pa d = act_at g p pa (stage_of d)
+
+abbrev pub old_in : GeometryData → ℕ → ℕ → Progress → List ℕ → ℕ
+old_in g p pa d words = old_by (next_in g p pa d) words

@@ -1,8 +1,10 @@
-ghost use Rattle.std.specs.Prelude.{◌≡◌, ◌-◌, ◌≤◌, ◌<◌, ◌++◌, IfOk, IfSome, IsSome, is_some, IsTrue, not, length, drop, slice_get, vec_capacity};
+ghost use Rattle.std.specs.Prelude.{◌≡◌, ◌-◌, ◌≤◌, ◌<◌, ◌++◌, IfOk, IfSome, IsSome, is_some};
+ghost use Rattle.std.specs.Prelude.{IsTrue, not, length, drop, slice_get, vec_capacity};
 ghost use Rattle.std.specs.List.{All};
 ghost use Rattle.shared_words.specs.Next.{old_by, words_after, MayBeMade};
 ghost use Rattle.processor.specs.Accesses.{IsAccess, block_answer};
-ghost use Rattle.processor.specs.InnerCpus.{task_of, idle_answer, idle_answers, fresh, has_ended, next_of, after_answer, took_of, HasActs, IsReadable};
+ghost use Rattle.processor.specs.InnerCpus.{task_of, idle_answer, idle_answers, fresh, has_ended};
+ghost use Rattle.processor.specs.InnerCpus.{next_of, after_answer, took_of, HasActs, IsReadable};
 
 use crate::progress::Progress;
 use gpi_values::{Gpi, Space, permits};

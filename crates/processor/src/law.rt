@@ -4,11 +4,13 @@ ghost use Rattle.shared_words.specs.Acts.{place_in, written};
 ghost use Rattle.history.specs.declared.call.Task.{Task};
 ghost use Rattle.history.specs.declared.call.Answer.{Answer};
 ghost use Rattle.history.specs.Events.{CallEvent};
-ghost use Rattle.gpt_descriptors.specs.Places.{GeometryData, IsGeometry, WordName, IsWordName, Duty, place_of, word_count};
+ghost use Rattle.gpt_descriptors.specs.Places.{GeometryData, IsGeometry, WordName, IsWordName};
+ghost use Rattle.gpt_descriptors.specs.Places.{Duty, place_of, word_count};
 ghost use Rattle.std.specs.List.{All};
 ghost use Rattle.processor.specs.Accesses.{IsAccess};
 ghost use Rattle.processor.specs.Script.{IsCall, IsUnderWay, Follows};
-ghost use Rattle.processor.specs.InnerCpus.{CpuData, IsCpu, IsReadable, fresh, task_of, has_ended, next_of, took_of, duty_at};
+ghost use Rattle.processor.specs.InnerCpus.{CpuData, IsCpu, IsReadable, fresh, task_of, has_ended};
+ghost use Rattle.processor.specs.InnerCpus.{next_of, took_of, duty_at};
 ghost use Rattle.processor.specs.InnerEntries.{made_at, own_entries};
 ghost use Rattle.processor.specs.InnerScript.{HasWalked};
 

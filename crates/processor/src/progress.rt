@@ -1,9 +1,10 @@
 ghost use Rattle.std.specs.Prelude.{◌≡◌, ◌<◌, IsSome, IsTrue, is_some};
 ghost use Rattle.gpt_descriptors.specs.Sizes.{space_bytes, with_generation};
 ghost use Rattle.gpt_descriptors.specs.Entries.{l1_entry};
-ghost use Rattle.shared_words.specs.Next.{old_by, words_after, MayBeMade};
+ghost use Rattle.shared_words.specs.Next.{words_after, MayBeMade};
 ghost use Rattle.processor.specs.Accesses.{walk_of};
-ghost use Rattle.processor.specs.InnerProgress.{stage_of, no_generations, act_at, after_load, after_word, after_at, answer_at, is_last};
+ghost use Rattle.processor.specs.InnerProgress.{stage_of, no_generations, act_at, next_in, old_in};
+ghost use Rattle.processor.specs.InnerProgress.{after_load, after_word, after_at, answer_at, is_last};
 ghost use Rattle.processor.specs.InnerProgress as stage;
 ghost use Rattle.processor.specs.InnerCpus.{IsReadable};
 
@@ -167,15 +168,14 @@ impl Progress {
     pub fn turn<W: Words>(&mut self, geometry: &Geometry, cpu: u32, pa: u64, words: &mut W) -> bool
         requires cpu { cpu < geometry.now.cpus }
         requires inside { pa < space_bytes geometry.now.setup }
-        requires next { IsSome (act_at geometry.now cpu pa (stage_of self.old)) }
-        requires place { MayBeMade (act_at geometry.now cpu pa (stage_of self.old))
-            (W.words words.old) }
+        requires next { IsSome (next_in geometry.now cpu pa self.old) }
+        requires place { MayBeMade (next_in geometry.now cpu pa self.old) (W.words words.old) }
         requires readable { IsReadable (stage_of self.old)
-            (old_by (act_at geometry.now cpu pa (stage_of self.old)) (W.words words.old)) }
+            (old_in geometry.now cpu pa self.old (W.words words.old)) }
         ensures words { W.words words.new
-            ≡ words_after (act_at geometry.now cpu pa (stage_of self.old)) (W.words words.old) }
+            ≡ words_after (next_in geometry.now cpu pa self.old) (W.words words.old) }
         ensures after { stage_of self.new ≡ after_at geometry.now pa (stage_of self.old)
-            (old_by (act_at geometry.now cpu pa (stage_of self.old)) (W.words words.old)) }
+            (old_in geometry.now cpu pa self.old (W.words words.old)) }
         ensures last { result ≡ is_last (stage_of self.old) }
     {
         match self.phase {
