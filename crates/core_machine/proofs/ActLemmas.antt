@@ -27,7 +27,10 @@ use Rattle.core_machine.proofs.ListLemmas.{one, get_append, get_front, get_last}
 use Rattle.core_machine.proofs.CallerLemmas.{Owner, agent_has, due_alone, holder_there, others_closed, others_whole}
 use Rattle.core_machine.proofs.OpenedLemmas.{closed_here}
 use Rattle.core_machine.proofs.StampLemmas.{Rises}
-use Rattle.core_machine.proofs.StepLemmas.{list_of, added_to, map_next, map_elsewhere, opened_with, IsEntryOf, no_duty, rises_left, step_keeps, counted_grown}
+use Rattle.core_machine.specs.InnerAgentCaller.{unraised_at}
+use Rattle.core_machine.specs.InnerWalks.{In}
+use Rattle.core_machine.proofs.WalkLemmas.{Tracks, tracks_same}
+use Rattle.core_machine.proofs.StepLemmas.{unraised_left, list_of, added_to, map_next, map_elsewhere, opened_with, IsEntryOf, no_duty, rises_left, step_keeps, counted_grown}
 use Rattle.core_machine.proofs.WordLemmas.{Writes, IsApart, is_generation, is_idle, is_level1, is_lock, generations_left, locks_left, plain_apart, words_left, writes_none}
 
 -- ---- the caller that acts
@@ -186,6 +189,7 @@ pub record Goes (s : Scene) (c : ℕ) (a : AgentData) (t : Task) (st next : Stag
   pub no_lock : is_lock n ≡ false
   pub idle : is_idle n ≡ false
   pub rises : Rises a.geometry s.words after
+  pub tracks : Tracks a.geometry s (λ y. unraised_at a.geometry y st (Some t)) (λ y. unraised_at a.geometry y next (Some t)) after (map_next s o) (s.history ++ list_of o)
   pub entry : IfSome o (IsOwn s c a t)
   pub words : AreWords a.geometry (map_next s o) (apart_by a.geometry.setup (holders_of (set s.callers c (caller.Agent (goes_to (at_stage a st) next))))) after
   pub opened : open_at a.geometry next (Some t) ≡ opened_with o (open_at a.geometry st (Some t))
@@ -268,6 +272,8 @@ goes_keeps {s = s} {c = c} {a = a} {t = t} {st = st} acting next n after o goes 
       rises = goes.rises;
       loads = tt;
       stamps = tt;
+      tracks = rw acting.under_way goes.tracks;
+      walks = λ w has. absurd has;
       entry = entry;
       tables = record { level1 = goes.words; blocks = blocks_next acting o goes.entry };
       opened = rw acting.under_way goes.opened;
@@ -300,6 +306,14 @@ pub record IsAlike (g : GeometryData) (c k : ℕ) (t : Task) (st next : Stage) :
   pub due : (y : Size) → is_due_at next y ≡ is_due_at st y
   pub front : entries_at g c k next (Some t) ≡ entries_at g c k st (Some t)
 
+-- where no generation is written, and the map and the changes that aren't raised stay
+pub tracks_quietly : {s : Scene} {c : ℕ} {a : AgentData} {t : Task} {st : Stage} (acting : Acting s c a t st) (next : Stage) (n : Option WordName) (after : List ℕ) (o : Option Entry) → Writes a.geometry s.words n after → is_generation n ≡ false
+    → ((k : ℕ) → map_next s o k ≡ map_in s k) → open_at a.geometry next (Some t) ≡ open_at a.geometry st (Some t) → ((y : Size) → is_due_at next y ≡ is_due_at st y)
+    → Tracks a.geometry s (λ y. unraised_at a.geometry y st (Some t)) (λ y. unraised_at a.geometry y next (Some t)) after (map_next s o) (s.history ++ list_of o)
+tracks_quietly {s = s} {c = c} {a = a} {t = t} {st = st} acting next n after o writes plain map opened due =
+    tracks_same a.geometry s _ _ _ _ _ map (λ y. rw (opened, due y) refl)
+    (λ y k v has. unraised_left c acting.stands acting.at writes plain y k v (subst (λ (u : Option Task). In (k, v) (unraised_at a.geometry y st u)) (sym acting.under_way) has))
+
 -- it writes no lock and no generation, and leaves the map
 pub goes_quietly : {s : Scene} {c : ℕ} {a : AgentData} {t : Task} {st : Stage} (acting : Acting s c a t st) (next : Stage) (n : Option WordName) (after : List ℕ) → IsAlike a.geometry c (length a.answers) t st next
     → IsMade a.geometry (caller.Agent (goes_to (at_stage a st) next)) → Writes a.geometry s.words n after → is_lock n ≡ false → is_idle n ≡ false → is_generation n ≡ false
@@ -316,6 +330,7 @@ goes_quietly {s = s} {c = c} {a = a} {t = t} {st = st} acting next n after alike
       no_lock = no_lock;
       idle = idle;
       rises = rises_left writes no_generation;
+      tracks = tracks_quietly acting next n after None writes no_generation (λ k. refl) alike.opened alike.due;
       entry = tt;
       words = words;
       opened = alike.opened;

@@ -120,12 +120,15 @@ size_some size.FiveTwelve = omega arith
 pub lock_by_region : (s : SetupData) (y : Size) (region pa : ℕ) → pa / size_bytes y ≡ region → lock_number s (region * size_bytes y) ≡ lock_number s pa
 lock_by_region s y region pa at = number_by_region s y (region * size_bytes y) pa (mul-div_cancel region (size_some y) ∙ sym at)
 
--- the 512 MB of an address, by its granule
+-- the block of a size of an address, by its granule
+pub block_by : (s : SetupData) (z : Size) (pa : ℕ) → pa / granule_bytes s / 16 / words_of s z ≡ pa / size_bytes z
+block_by s z pa =
+    ap (λ (n : ℕ). n / words_of s z) (sym (word_by_granule s pa))
+    ∙ div-div-eq-div-mul pa (word_bytes s) (words_of s z)
+    ∙ ap (λ (n : ℕ). pa / n) (mul_comm (word_bytes s) (words_of s z) ∙ words_whole s z)
+
 block_of : (s : SetupData) (pa : ℕ) → pa / granule_bytes s / 16 / words_of s size.FiveTwelve ≡ pa / 2 ^ 29
-block_of s pa =
-    ap (λ (n : ℕ). n / words_of s size.FiveTwelve) (sym (word_by_granule s pa))
-    ∙ div-div-eq-div-mul pa (word_bytes s) (words_of s size.FiveTwelve)
-    ∙ ap (λ (n : ℕ). pa / n) (mul_comm (word_bytes s) (words_of s size.FiveTwelve) ∙ words_whole s size.FiveTwelve)
+block_of s pa = block_by s size.FiveTwelve pa
 
 -- the lock of a granule
 abbrev pub lock_of : SetupData → ℕ → ℕ

@@ -1,27 +1,33 @@
 -- What a caller holds, has open, owes and sees is in the lock blocks that it holds: of an agent, of a processor, and of a
 -- caller among others.
-use Rattle.std.proofs.Common.{◌≡◌, ◌≢◌, ◌⊎◌, ℕ, ◌*◌, ◌/◌, ◌<◌, [], List, map, true, false, ◌&&◌, Option, Some, None, refl, sym, ap, ◌∙◌, subst, inl, inr}
+use Rattle.std.proofs.Common.{◌≡◌, ◌≢◌, ◌⊎◌, ℕ, ◌*◌, ◌/◌, ◌<◌, ◌≤◌, [], List, map, true, false, ◌&&◌, Option, Some, None, refl, sym, ap, ◌∙◌, subst, inl, inr, arith}
 use Rattle.std.specs.Prelude.{slice_get, slice_index}
 use Rattle.std.specs.List.{count_by}
 use Rattle.std.proofs.lemmas.Bool.{cases_Bool, cases_eq, eqb-true, eq-eqb, ne_eqb, and_parts, and_right}
 use Rattle.std.proofs.lemmas.Option.{slice_get-map, slice_get_within, get_or_from_slice_get}
-use Rattle.core_machine.proofs.Names.{Gpi, Size, size_bytes, words_of, GeometryData, gen_place_of, lock_number, Holder, Whole, step_of, Task, Stage, address_of, idle_answer, granule_of_task, AgentData, HasActs, IsAgent, IsStage, task_of, Caller, SeesAt, is_around, is_due_at, is_inside, known_at, open_at, IsMade, Sees, holder_by, holds, is_due, open_by, HoldsIn, pairs_of, Scene}
+use Rattle.core_machine.proofs.Names.{Gpi, Size, granule_bytes, size_bytes, space_bytes, words_of, GeometryData, gen_place_of, lock_number, Holder, Whole, step_of, Task, Stage, address_of, idle_answer, granule_of_task, AgentData, HasActs, IsAgent, IsStage, task_of, Caller, SeesAt, is_around, is_due_at, is_inside, known_at, open_at, IsMade, Sees, holder_by, holds, is_due, open_by, HoldsIn, pairs_of, Scene}
 use Rattle.core_machine.proofs.Names.size
 use Rattle.core_machine.proofs.Names.stage
 use Rattle.core_machine.proofs.Names.caller
 use Rattle.table_meaning.proofs.FactLemmas.{facts_local}
 use Rattle.delegate_ops.proofs.DecidingLemmas.{acts_inside}
 use Rattle.delegate_ops.proofs.ScriptLemmas.{some_mapped}
-use Rattle.core_machine.specs.InnerAgentCaller.{GivesAt, SeesGenerations, agent_holds, agent_sees, granule_under_way, is_lock_of}
+use Rattle.core_machine.specs.InnerAgentCaller.{GivesAt, SeesGenerations, unraised_at, agent_holds, agent_sees, granule_under_way, is_lock_of}
 use Rattle.core_machine.proofs.AddressLemmas.{lock_by_granule, lock_of, region_lock, task_lock, task_low}
 use Rattle.core_machine.proofs.ListLemmas.{count_alone, one}
 use Rattle.core_machine.proofs.LockLemmas.{one_holder}
+use Rattle.std.proofs.Math.Nat.{div-mul-le_self}
 use Rattle.core_machine.proofs.WordLemmas.{LeavesBlock}
+use Rattle.core_machine.specs.InnerCallers.{unraised_by}
+use Rattle.core_machine.specs.InnerWalks.{In}
+use Rattle.delegate_ops.specs.Changing.{from_of}
+use Rattle.core_machine.proofs.WalkLemmas.{in_pairs, one_pair}
 
 -- what a caller has is in the blocks of the locks that it holds
 pub record IsPlaced (g : GeometryData) (x : Caller) : Type 0 where
   pub low : (n : ℕ) → holds n x ≡ true → n < 128
   pub opened : (granule : ℕ) → (pairs_of granule (open_by x) ≡ []) ⊎ (holds (lock_of g.setup granule) x ≡ true)
+  pub unraised : (y : Size) (granule : ℕ) (v : Gpi) → In (granule, v) (unraised_by y x) → (holds (lock_of g.setup granule) x ≡ true) × (granule * granule_bytes g.setup < space_bytes g.setup)
   pub due : (y : Size) (region : ℕ) → (is_due y region x ≡ false) ⊎ (holds (lock_number g.setup (region * size_bytes y)) x ≡ true)
   pub holder : ((holder_by x).step ≡ Whole) ⊎ (holds (lock_of g.setup (holder_by x).granule) x ≡ true)
   pub sees : (k l : ℕ → Gpi) (words after : List ℕ) → ((n : ℕ) → holds n x ≡ true → LeavesBlock g k l words after n) → Sees k words x → Sees l after x
@@ -55,6 +61,17 @@ open_in g (stage.Raising c z k) (Some t) granule acts =
       | inr apart ↦ inl (rw (ne_eqb _ _ apart) refl)
     ]
 open_in g s o granule acts = inl refl
+
+unraised_in : (g : GeometryData) (s : Stage) (o : Option Task) (y : Size) (granule : ℕ) (v : Gpi) → HasActs g o → In (granule, v) (unraised_at g y s o)
+    → ((is_inside s && is_lock_of g (lock_of g.setup granule) o) ≡ true) × (granule * granule_bytes g.setup < space_bytes g.setup)
+unraised_in g (stage.Raising c z k) (Some t) y granule v acts has =
+    let same = (one_pair (granule_of_task g t) granule (from_of t c) v (in_pairs granule v (is_due_at (stage.Raising c z k) y) _ has).1).0 in
+    let low : address_of t / granule_bytes g.setup * granule_bytes g.setup ≤ address_of t = div-mul-le_self (address_of t) (granule_bytes g.setup) in (
+      eq-eqb _ _ (sym (task_lock g t acts) ∙ ap (lock_of g.setup) same),
+      subst (λ (n : ℕ). n * granule_bytes g.setup < space_bytes g.setup) same (omega (arith, low, acts_inside g t acts)),
+    )
+unraised_in g (stage.Raising c z k) None y granule v acts has = absurd (in_pairs granule v (is_due_at (stage.Raising c z k) y) [] has).1
+unraised_in g s o y granule v acts has = absurd (in_pairs granule v (is_due_at s y) [] has).1
 
 due_in : (g : GeometryData) (s : Stage) (o : Option Task) (y : Size) (region : ℕ) → HasActs g o
     → ((is_due_at s y && is_around g y region o) ≡ false) ⊎ ((is_inside s && is_lock_of g (lock_number g.setup (region * size_bytes y)) o) ≡ true)
@@ -99,6 +116,7 @@ agent_placed : (a : AgentData) → IsAgent a → IsPlaced a.geometry (caller.Age
 agent_placed a is = record {
   low = λ n has. let task = agent_inside a n has in subst (λ (m : ℕ). m < 128) task.2 (task_low a.geometry task.0 (subst (HasActs a.geometry) task.1 is.acts) is.geometry.setup);
   opened = λ granule. open_in a.geometry a.stage (task_of a) granule is.acts;
+  unraised = λ y granule v. unraised_in a.geometry a.stage (task_of a) y granule v is.acts;
   due = λ y region. due_in a.geometry a.stage (task_of a) y region is.acts;
   holder = holder_in a.geometry a.stage (task_of a) is.acts is.stage;
   sees = λ k l words after left sees. sees_in a k l words after is left sees;
@@ -108,7 +126,7 @@ agent_placed a is = record {
 
 pub placed : (g : GeometryData) (x : Caller) → IsMade g x → IsPlaced g x
 placed g (caller.Agent a) made = subst (λ (k : GeometryData). IsPlaced k (caller.Agent a)) made.0 (agent_placed a made.1)
-placed g (caller.Cpu q) made = record { low = λ n has. absurd cc; opened = λ granule. inl refl; due = λ y region. inl refl; holder = inl refl; sees = λ k l words after left sees. tt }
+placed g (caller.Cpu q) made = record { low = λ n has. absurd cc; opened = λ granule. inl refl; unraised = λ y granule v has. absurd has; due = λ y region. inl refl; holder = inl refl; sees = λ k l words after left sees. tt }
 
 -- what holds of a caller of the list
 pub made_at_place : (g : GeometryData) (s : Scene) (d : ℕ) (y : Caller) → HoldsIn g s → slice_get s.callers d ≡ Some y → IsMade g y

@@ -40,6 +40,7 @@ use Rattle.core_machine.proofs.StampLemmas.{idle_unstamped, own_stamps_grow, reg
 use Rattle.core_machine.proofs.AddressLemmas.{index_at, word_by_granule, word_readable}
 use Rattle.core_machine.proofs.CallerLemmas.{due_alone, made_at_place, placed_at}
 use Rattle.core_machine.proofs.ActLemmas.{canonical_gives, map_gives}
+use Rattle.core_machine.proofs.WalkLemmas.{tracks_same}
 use Rattle.core_machine.proofs.StepLemmas.{aside_keeps, rises_left, step_keeps, tables_whole}
 use Rattle.core_machine.proofs.WordLemmas.{Writes, is_generation, is_level1, is_line, is_lock, locks_left, writes_none, writes_one}
 
@@ -165,6 +166,8 @@ module _ {s : Scene} {c : ℕ} {q : CpuData} {pa : ℕ} {space : Space} {st : St
         };
         loads = loads;
         stamps = stamps;
+        unraised = λ y. refl;
+        walks = λ w has. has;
         before = refl;
         whole = refl;
         opened = refl;
@@ -241,6 +244,8 @@ walk_keeps {s = s} {c = c} {q = q} {pa = pa} {space = space} k place acting ther
             rises = rises_left writes refl;
             loads = loads_of acting (stage.Closing found.0) s.words loaded;
             stamps = stamps_of acting (stage.Closing found.0) (s.history ++ e ∷ []) answered decided;
+            tracks = tracks_same g s _ _ _ _ _ (λ n. refl) (λ y. refl) (λ y n v has. absurd has);
+            walks = λ w has. absurd has;
             entry = record { caller = refl; call = refl; goes_on = refl; block = λ m on. absurd cc; allowed = inl here };
             tables = tables_whole c (caller.Cpu (goes_to q (stage.Closing found.0))) acting.stands acting.at writes refl refl refl;
             opened = refl;

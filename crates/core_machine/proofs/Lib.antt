@@ -9,6 +9,7 @@ pub mod OpenedLemmas
 pub mod AloneLemmas
 pub mod CountedLemmas
 pub mod StampLemmas
+pub mod WalkLemmas
 pub mod StepLemmas
 pub mod ActLemmas
 pub mod LockActs
@@ -16,6 +17,7 @@ pub mod LoadActs
 pub mod ChangeActs
 pub mod RaiseActs
 pub mod BlockActs
+pub mod CoverLemmas
 pub mod CpuActs
 pub mod LawLemmas
 pub mod MachineLemmas

@@ -27,7 +27,7 @@ use Rattle.delegate_ops.specs.InnerAgents.{IsReadable, looked_stage, loaded_stag
 use Rattle.delegate_ops.proofs.AgentLemmas.{at_stage, no_look_at}
 use Rattle.delegate_ops.proofs.ScriptLemmas.{some_mapped}
 use Rattle.core_machine.proofs.EntryLemmas.{refused_is}
-use Rattle.core_machine.proofs.ActLemmas.{canonical_gives, reads_own, map_has, holders_of, holder_at, alone_there, tables_after, tables_stay, Acting, granule_closed, counts_of, seen_of, raised_same, goes_keeps, load_quietly}
+use Rattle.core_machine.proofs.ActLemmas.{canonical_gives, reads_own, map_has, holders_of, holder_at, alone_there, tables_after, tables_stay, Acting, granule_closed, counts_of, seen_of, raised_same, tracks_quietly, goes_keeps, load_quietly}
 use Rattle.core_machine.proofs.WordLemmas.{writes_none}
 use Rattle.core_machine.proofs.CountedLemmas.{worn_counted}
 use Rattle.core_machine.proofs.LockActs.{ActKeeps}
@@ -66,6 +66,7 @@ refuse {s = s} {c = c} {a = a} {t = t} {st = st} acting given inside whole made 
       no_lock = refl;
       idle = refl;
       rises = rises_left (writes_none a.geometry s.words) refl;
+      tracks = tracks_quietly acting (stage.Releasing given) None s.words (Some e) (writes_none a.geometry s.words) refl (λ k. refl) (sym open_none) (λ y. sym (due_none y));
       entry = record { caller = refl; call = refl; granule = refl; allowed = (map_has acting, granule_closed acting inside open_none) };
       words = tables_stay acting inside (stage.Releasing given) (sym whole) (writes_none a.geometry s.words) refl;
       opened = sym open_none;

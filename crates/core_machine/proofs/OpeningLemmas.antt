@@ -10,6 +10,9 @@ use Rattle.std.proofs.Math.Nat.{div-lt_iff_lt-mul}
 use Rattle.std.proofs.lemmas.List.FromFn.{length-map-range_with_len, get_or-map-range_with_len}
 use Rattle.std.proofs.lemmas.Nat.{div_below}
 use Rattle.std.proofs.lemmas.Option.{get_or_from_slice_get, slice_get_within}
+use Rattle.core_machine.specs.InnerCallers.{unraised_by, walks_by}
+use Rattle.core_machine.specs.InnerWalks.{In}
+use Rattle.walk_cache.specs.declared.walk.Walk.{Walk}
 use Rattle.core_machine.proofs.Names.{Gpi, Size, SetupData, granule_bytes, words_of, table_words, space_words, space_granules, canonical_word, l1_index, GeometryData, IsGeometry, Lock, Duty, Generation, Level1, Line, place_of, l0_words, l1_words, Holder, Whole, Task, Answer, caller_in, answered_entries, AgentData, IsAgent, CpuData, IsCpu, idle_answers, IsMade, Sees, holds, duty_by, NumbersDiffer, is_due, known_answers, open_by, holder_by, HoldsIn, pairs_of, Caller, map_at, IsCounted}
 use Rattle.core_machine.proofs.Names.gpi
 use Rattle.core_machine.proofs.Names.size
@@ -132,6 +135,8 @@ pub record IsAtRest (g : GeometryData) (x : Caller) : Type 0 where
   pub off : duty_by x ≡ 0
   pub loads : (words : List ℕ) → HasLoaded words x
   pub stamps : (map : List Gpi) (c : ℕ) → HasOwnStamps map [] c x
+  pub raises : (y : Size) (pair : ℕ × Gpi) → In pair (unraised_by y x) → ⊥
+  pub walks : (w : Walk) → In w (walks_by x) → ⊥
 
 fresh_rests : (g : GeometryData) (x : Caller) → IsFresh g x → IsAtRest g x
 fresh_rests g (caller.Agent a) is =
@@ -148,6 +153,8 @@ fresh_rests g (caller.Agent a) is =
       off = refl;
       loads = λ words. tt;
       stamps = λ map c. tt;
+      raises = λ y pair has. has;
+      walks = λ w has. has;
     })
 fresh_rests g (caller.Cpu q) is =
     let p : ℕ = q.number in
@@ -168,6 +175,8 @@ fresh_rests g (caller.Cpu q) is =
         λ k t given asked answered. idle_unstamped g map g.setup.first (granule_bytes g.setup) c k k q.tasks t given [] answered,
         starting_stamps g map c (length (cpus.idle_answers g q.tasks)) (cpus.task_of (cpus.fresh g p q.tasks)) [],
       );
+      raises = λ y pair has. has;
+      walks = λ w has. has;
     })
 
 -- each caller of a fresh list
@@ -220,4 +229,6 @@ opening_invariant g first callers words fresh_all differ starting =
       least = λ y region within. let first = starting.generations y region within in omega (arith, first);
       loads = λ c x at. (rests c x at).loads words;
       stamps = λ c x at. (rests c x at).stamps first c;
+      walks = λ c x at w has. absurd ((rests c x at).walks w has);
+      pairs = λ y granule former some. absurd ((rests some.number some.caller some.at).raises y (granule, former) some.has);
     }

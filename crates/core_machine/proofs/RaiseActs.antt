@@ -1,6 +1,6 @@
 -- The raises of the generations after a change.
-use Rattle.std.proofs.Common.{◌≡◌, ◌≢◌, ℕ, ◌+◌, ◌*◌, ◌/◌, ◌<◌, ◌⊎◌, ◌++◌, ◌∷◌, [], List, true, false, not, ◌&&◌, Some, length, set, refl, sym, ◌∙◌, subst, arith, inl, inr, append-nil, None, Option}
-use Rattle.std.specs.Prelude.{IfSome}
+use Rattle.std.proofs.Common.{◌≡◌, ◌≢◌, ℕ, ◌+◌, ◌*◌, ◌/◌, ◌<◌, ◌⊎◌, ◌++◌, ◌∷◌, [], List, true, false, not, ◌&&◌, Some, length, set, ap, refl, sym, ◌∙◌, subst, arith, inl, inr, append-nil, None, Option}
+use Rattle.std.specs.Prelude.{IfSome, slice_index}
 use Rattle.std.proofs.lemmas.Bool.{cases_eq, eq-eqb, ne_eqb}
 use Rattle.std.proofs.lemmas.List.{get_or-set_same}
 use Rattle.core_machine.proofs.Names.{Size, Generations, granule_bytes, size_bytes, Gpi, words_of, GeometryData, Generation, Level1, place_of, l1_index_of, gen_place_of, blocks_in_region, Act, Fusing, Testing, Storing, Ended, Step, Whole, apart_by, AreWords, Facts, Keeps, step_of, Task, Answer, Entry, region_of, Change, Kept, Stage, address_of, generation_in, AgentData, IsStage, task_of, goes_to, HoldsIn, Scene, state_in, scene_after, map_in, IsCounted, generation_word, entries_at, made_at, granule_of_task, is_inside, open_at, comes_before, SeesGeneration, SeesAt, is_due_at, is_around, coming_at, known_at, is_due, IsMade}
@@ -29,6 +29,9 @@ use Rattle.delegate_ops.proofs.AgentLemmas.{at_stage}
 use Rattle.core_machine.proofs.ListLemmas.{one}
 use Rattle.core_machine.proofs.StampLemmas.{rises_one}
 use Rattle.core_machine.proofs.ActLemmas.{IsOwn, holders_of, holder_at, alone_there, tables_after, tables_stay, Acting, inside_of, generation_below, closed_of, counts_of, seen_of, goes_keeps}
+use Rattle.core_machine.specs.InnerAgentCaller.{unraised_at}
+use Rattle.core_machine.specs.InnerWalks.{In, generation_around}
+use Rattle.core_machine.proofs.WalkLemmas.{Tracks, in_pairs, one_pair}
 use Rattle.core_machine.proofs.WordLemmas.{Writes, writes_one, words_left, generation_left}
 use Rattle.core_machine.proofs.OpenedLemmas.{open_here}
 use Rattle.core_machine.proofs.CountedLemmas.{done_counted}
@@ -144,12 +147,55 @@ pub record Raises (s : Scene) (c : ℕ) (a : AgentData) (t : Task) (ch : Change)
   pub made : IsMade a.geometry (caller.Agent (goes_to (at_stage a (stage.Raising ch z k)) next))
   pub words : AreWords a.geometry (map_next s o) (apart_by a.geometry.setup (holders_of (set s.callers c (caller.Agent (goes_to (at_stage a (stage.Raising ch z k)) next))))) (raised_words s a t z k)
   pub owes : Owes ch z k next
+  pub map : (n : ℕ) → map_next s o n ≡ map_in s n
+  pub keeps : (y : Size) → is_due_at next y ≡ true → open_at a.geometry next (Some t) ≡ open_at a.geometry (stage.Raising ch z k) (Some t)
+  pub before : (y : Size) → y ≢ z → is_due_at (stage.Raising ch z k) y ≡ true → open_at a.geometry next (Some t) ≡ open_at a.geometry (stage.Raising ch z k) (Some t)
   pub entry : IfSome o (IsOwn s c a t)
   pub no_change : (y : Size) (region : ℕ) → added_to a.geometry y region o ≡ 0
   pub opened : open_at a.geometry next (Some t) ≡ opened_with o (open_at a.geometry (stage.Raising ch z k) (Some t))
   pub sees : SeesAt a.geometry (map_next s o) (raised_words s a t z k) t next
   pub coming : (given : Answer) → coming_at next ≡ given ∷ [] → IsCounted a.geometry c (length a.answers) t given (s.history ++ list_of o)
   pub front : entries_at a.geometry c (length a.answers) next (Some t) ≡ entries_at a.geometry c (length a.answers) (stage.Raising ch z k) (Some t) ++ list_of o
+
+-- the pair ends for the size that is raised, and stays for those that are still to be raised
+raised_tracks : {s : Scene} {c : ℕ} {a : AgentData} {t : Task} (ch : Change) (z : Size) (k : Kept) (next : Stage) (o : Option Entry) (acting : Acting s c a t (stage.Raising ch z k)) → Raises s c a t ch z k next o
+    → Tracks a.geometry s (λ y. unraised_at a.geometry y (stage.Raising ch z k) (Some t)) (λ y. unraised_at a.geometry y next (Some t)) (raised_words s a t z k) (map_next s o) (s.history ++ list_of o)
+raised_tracks {s = s} {c = c} {a = a} {t = t} ch z k next o acting raises =
+    let g = a.geometry in
+    let st = stage.Raising ch z k in
+    let granule = granule_of_task g t in
+    let block = address_of t / size_bytes z in
+    let writes = writes_raise acting z k in
+    let around : region_of (granule_bytes g.setup) z granule ≡ block = region_at g t acting.acts z in
+    let own : (y : Size) (n : ℕ) (v : Gpi) → In (n, v) (open_at g st (Some t)) → granule ≡ n =
+    λ y n v has. (one_pair granule n (from_of t ch) v has).0 in
+    let rose : generation_around g s.words z granule < generation_around g (raised_words s a t z k) z granule =
+    (let old = (seen_of acting).generations z in
+    let first : generation_around g s.words z granule ≡ slice_index s.words (gen_place_of g z (address_of t)) = ap (generation_word g s.words z) around in
+    let second : generation_around g (raised_words s a t z k) z granule ≡ generation_in z k.generations + 1 =
+    ap (generation_word g (raised_words s a t z k) z) around ∙ get_or-set_same s.words (gen_place_of g z (address_of t)) (generation_in z k.generations + 1) 0 (generation_below acting z) in
+    omega (arith, old, first, second)) in
+    record {
+      changed = λ n. inl (raises.map n);
+      ends = λ y n v has.
+          let was = in_pairs n v (is_due_at st y) (open_at g st (Some t)) has in
+          elim (size_cases y z) [
+            | inl same ↦ inr (subst (λ (x : Size). generation_around g s.words x n < generation_around g (raised_words s a t z k) x n) (sym same)
+                (subst (λ (j : ℕ). generation_around g s.words z j < generation_around g (raised_words s a t z k) z j) (own y n v was.1) rose))
+            | inr apart ↦ inl (rw (raises.owes.others y apart ∙ was.0) (subst (In (n, v)) (sym (raises.before y apart was.0)) was.1))
+          ];
+      pairs = λ y n v has.
+          let now = in_pairs n v (is_due_at next y) (open_at g next (Some t)) has in
+          let was = subst (In (n, v)) (raises.keeps y now.0) now.1 in
+          let apart : y ≢ z = (λ same. absurd (let both : true ≡ false = sym now.0 ∙ ap (is_due_at next) same ∙ raises.owes.paid in cc)) in
+          let region : ℕ = region_of (granule_bytes g.setup) y n in
+          let here : region ≡ address_of t / size_bytes y = ap (region_of (granule_bytes g.setup) y) (sym (own y n v was)) ∙ region_at g t acting.acts y in
+          let within : region < blocks_in_region y * g.setup.gigabytes = subst (λ (r : ℕ). r < blocks_in_region y * g.setup.gigabytes) (sym here) (generation_named g y (address_of t) (inside_of acting)) in
+          inl (
+            rw (sym (raises.owes.others y apart) ∙ now.0) was,
+            generation_left writes y region within (λ both. apart (let e : z ≡ y = cc in sym e)),
+          );
+    }
 
 raise_goes : {s : Scene} {c : ℕ} {a : AgentData} {t : Task} (ch : Change) (z : Size) (k : Kept) (next : Stage) (o : Option Entry) (acting : Acting s c a t (stage.Raising ch z k)) → Raises s c a t ch z k next o
     → HoldsIn a.geometry (scene_after s c (caller.Agent (goes_to (at_stage a (stage.Raising ch z k)) next)) (raised_words s a t z k) (list_of o))
@@ -166,6 +212,7 @@ raise_goes {s = s} {a = a} {t = t} ch z k next o acting raises =
       rises = λ y region within.
           rises_one s.words (gen_place_of a.geometry z (address_of t)) (place_of a.geometry (Generation y region)) (generation_in z k.generations + 1) (generation_below acting z)
           (let old = (seen_of acting).generations z in omega (arith, old));
+      tracks = raised_tracks ch z k next o acting raises;
       entry = raises.entry;
       words = raises.words;
       opened = raises.opened;
@@ -186,6 +233,9 @@ raise_quietly {s = s} {a = a} {t = t} ch z k next acting owes made =
       made = made;
       words = tables_stay acting refl (stage.Raising ch next (kept_raised z k)) refl (writes_raise acting z k) refl;
       owes = owes;
+      map = λ n. refl;
+      keeps = λ y due. refl;
+      before = λ y apart due. refl;
       entry = tt;
       no_change = λ y region. refl;
       opened = refl;
@@ -259,6 +309,9 @@ raise_last {s = s} {c = c} {a = a} {t = t} ch k next acting settles words made =
       made = made;
       words = words;
       owes = owes_last ch k next settles.none_due;
+      map = λ n. refl;
+      keeps = λ y due. absurd (let both : true ≡ false = sym due ∙ settles.none_due y in cc);
+      before = λ y apart due. absurd (let both : true ≡ false = sym due ∙ sym (last_others y apart) in cc);
       entry = record { caller = refl; call = refl; granule = refl; allowed = open_here (state_in s) s.callers c granule (from_of t ch) me acting.at acting.stands.opened (closed_of acting refl) (rw acting.under_way refl) };
       no_change = λ y region. refl;
       opened = settles.closes ∙ rw (eq-eqb granule granule refl) refl;

@@ -1,13 +1,13 @@
 -- A step of one caller keeps the facts of the core: what it has to show of the word that it writes, of its own state and
 -- of the entry that it makes.
-use Rattle.std.proofs.Common.{◌≡◌, ◌≢◌, ℕ, ◌+◌, ◌*◌, ◌<◌, ◌⊎◌, ◌++◌, ◌∷◌, [], List, map, true, false, ◌&&◌, eqb, Option, Some, None, set, refl, sym, ap, ◌∙◌, subst, arith, inl, inr, append-nil}
+use Rattle.std.proofs.Common.{◌≡◌, ◌≢◌, ℕ, ◌+◌, ◌*◌, ◌/◌, ◌<◌, ◌⊎◌, ◌++◌, ◌∷◌, [], List, map, true, false, ◌&&◌, eqb, Option, Some, None, set, refl, sym, ap, ◌∙◌, subst, arith, inl, inr, append-nil}
 use Rattle.std.specs.Prelude.{slice_get, slice_index, IfSome}
 use Rattle.std.proofs.lemmas.Bool.{cases_Bool, cases_eq, eqb-true, eq-eqb}
 use Rattle.std.specs.Option.{option_map}
 use Rattle.std.proofs.lemmas.Option.{slice_get-map}
 use Rattle.std.proofs.lemmas.List.{get_or-set_other, map-set}
 use Rattle.std.proofs.lemmas.List.Elements.{All-set}
-use Rattle.core_machine.proofs.Names.{Gpi, Size, granule_bytes, GeometryData, WordName, Duty, place_of, blocks_in_region, canonical_word, lock_bit, Holder, Whole, apart_by, Task, Answer, Entry, caller_in, call_in, granule_in, State, start, after_entry, state_after, is_by, region_of, count_of, Caller, number_by, duty_by, NumbersDiffer, holder_by, holds, open_by, Sees, is_due, known_answers, caller_tasks, IsMade, AreAllowed, HoldsIn, Scene, state_in, map_in, scene_after, map_at, IsCounted, generation_word, is_on_block}
+use Rattle.core_machine.proofs.Names.{Gpi, Size, granule_bytes, size_bytes, GeometryData, WordName, Duty, place_of, blocks_in_region, canonical_word, lock_bit, Holder, Whole, apart_by, Task, Answer, Entry, caller_in, call_in, granule_in, State, start, after_entry, state_after, is_by, region_of, count_of, Caller, number_by, duty_by, NumbersDiffer, holder_by, holds, open_by, Sees, is_due, known_answers, caller_tasks, IsMade, AreAllowed, HoldsIn, Scene, state_in, map_in, scene_after, map_at, IsCounted, generation_word, is_on_block}
 use Rattle.core_machine.proofs.Names.gpi
 use Rattle.core_machine.proofs.Names.entry
 use Rattle.core_machine.proofs.Names.caller
@@ -24,7 +24,11 @@ use Rattle.core_machine.proofs.AddressLemmas.{lock_of}
 use Rattle.core_machine.proofs.CallerLemmas.{held_once, made_at_place, others_closed, placed_at}
 use Rattle.core_machine.proofs.OpenedLemmas.{opened_after, opened_stays, opened_changes}
 use Rattle.core_machine.proofs.WordLemmas.{Writes, IsApart, block_left, plain_apart, is_generation, is_level1, is_idle, is_line, idle_duty, idle_line, generations_left, words_left, lines_left}
-use Rattle.core_machine.specs.InnerCallers.{HasLoaded, HasOwnStamps}
+use Rattle.core_machine.specs.InnerCallers.{HasLoaded, HasOwnStamps, unraised_by, walks_by}
+use Rattle.core_machine.specs.InnerWalks.{In, WalkHolds, generation_around}
+use Rattle.walk_cache.specs.declared.walk.Walk.{Walk}
+use Rattle.gpt_descriptors.proofs.PlaceLemmas.{generation_named}
+use Rattle.core_machine.proofs.WalkLemmas.{Tracks, tracks_same, walk_stays, pairs_stay}
 use Rattle.core_machine.proofs.StampLemmas.{Rises, caller_loads_rise, own_stamps_grow}
 use Rattle.core_machine.proofs.ToldLemmas.{IsAdded, history_keeps}
 use Rattle.core_machine.proofs.AloneLemmas.{undisturbed_more, alone_own, alone_other}
@@ -112,6 +116,8 @@ pub record Step (g : GeometryData) (s : Scene) (c : ℕ) (me x : Caller) (n : Op
   pub rises : Rises g s.words after
   pub loads : HasLoaded after x
   pub stamps : HasOwnStamps s.first (s.history ++ list_of o) c x
+  pub tracks : Tracks g s (λ y. unraised_by y me) (λ y. unraised_by y x) after (map_next s o) (s.history ++ list_of o)
+  pub walks : (w : Walk) → In w (walks_by x) → In w (walks_by me) ⊎ WalkHolds g after (map_next s o) (set s.callers c x) w
   pub entry : IfSome o (IsEntryOf g s c me x)
   pub tables : AreTables g after (set s.callers c x) (map_next s o)
   pub opened : open_by x ≡ opened_with o (open_by me)
@@ -217,6 +223,22 @@ module _ {g : GeometryData} {s : Scene} {c : ℕ} {me x : Caller} {n : Option Wo
       (λ e fits. alone_other g.setup m d (call_of y) s.history e (step.stands.alone d m y there has)
       (elim (cases_Bool (is_on_block g.setup m e)) [ inl on ↦ absurd (let both : true ≡ false = sym (fits.block m on) ∙ not_mine d m y apart there has in cc) | inr off ↦ off ]))
 
+  -- what others have changed and not raised keeps its generations
+  others_unraised : (d : ℕ) (u : Caller) → d ≢ c → slice_get s.callers d ≡ Some u → (y : Size) (k : ℕ) (v : Gpi) → In (k, v) (unraised_by y u) → generation_around g after y k ≡ generation_around g s.words y k
+  others_unraised d u apart there y k v has =
+      let place = (placed_at g s d u step.stands there).unraised y k v has in
+      let free = not_mine d (lock_of g.setup k) u apart there place.0 in
+      (block_left (lock_of g.setup k) (map_in s) (map_in s) step.writes (step.apart (lock_of g.setup k) free) (λ n lock. refl)).generations y (k * granule_bytes g.setup) place.1 refl
+
+  -- the walks of all callers hold
+  all_walks : (d : ℕ) (y : Caller) → slice_get (set s.callers c x) d ≡ Some y → (w : Walk) → In w (walks_by y) → WalkHolds g after (map_next s o) (set s.callers c x) w
+  all_walks =
+      let stays : (w : Walk) → WalkHolds g s.words (map_in s) s.callers w → WalkHolds g after (map_next s o) (set s.callers c x) w =
+      λ w old. walk_stays g s c me x after (map_next s o) (s.history ++ list_of o) w step.at step.rises step.tracks old in
+      each_set (λ (d : ℕ) (y : Caller). (w : Walk) → In w (walks_by y) → WalkHolds g after (map_next s o) (set s.callers c x) w) s.callers c x
+      (λ w has. elim (step.walks w has) [ inl old ↦ stays w (step.stands.walks c me step.at w old) | inr new ↦ new ])
+      (λ d y apart there w has. stays w (step.stands.walks d y there w has))
+
   others_on : (d : ℕ) (y : Caller) → d ≢ c → slice_get s.callers d ≡ Some y → (p : ℕ) → number_by y ≡ Some p → slice_index after (place_of g (Duty p)) ≡ duty_by y
   others_on d y apart there p is =
       step.writes.beside (Duty p) (number_low g y p (made_at_place g s d y step.stands there) is) (λ same. apart (step.stands.numbers d c p y me there step.at is (step.duty.own p same)))
@@ -272,6 +294,8 @@ module _ {g : GeometryData} {s : Scene} {c : ℕ} {me x : Caller} {n : Option Wo
             (λ d y apart there. caller_loads_rise g s.words after y (made_at_place g s d y stands there) step.rises (stands.loads d y there));
         stamps = each_set (λ (d : ℕ) (y : Caller). HasOwnStamps s.first (h ++ list_of o) d y) s.callers c x step.stamps
             (λ d y apart there. own_stamps_grow s.first h (list_of o) d y (stands.stamps d y there));
+        walks = subst (λ (st : State). (d : ℕ) (y : Caller) → slice_get (set s.callers c x) d ≡ Some y → (w : Walk) → In w (walks_by y) → WalkHolds g after (map_at st.map) (set s.callers c x) w) (sym same) all_walks;
+        pairs = pairs_stay g s c me x after (map_next s o) (list_of o) step.at step.tracks others_unraised stands.pairs;
       }
 
 -- ---- a step without an entry that writes neither a generation nor an L1 word
@@ -290,6 +314,13 @@ tables_whole {g = g} {s = s} c {me = me} x stands at writes unlike before whole 
       blocks = stands.tables.blocks;
     }
 
+-- where no generation is written
+pub unraised_left : {g : GeometryData} {s : Scene} (c : ℕ) {me : Caller} {n : Option WordName} {after : List ℕ} → HoldsIn g s → slice_get s.callers c ≡ Some me → Writes g s.words n after → is_generation n ≡ false
+    → (y : Size) (k : ℕ) (v : Gpi) → In (k, v) (unraised_by y me) → generation_around g after y k ≡ generation_around g s.words y k
+unraised_left {g = g} {s = s} c {me = me} stands at writes plain y k v has =
+    let place = (placed_at g s c me stands at).unraised y k v has in
+    generations_left writes plain y (k * granule_bytes g.setup / size_bytes y) (generation_named g y (k * granule_bytes g.setup) place.1)
+
 -- It has open and owes what it did.
 pub record Aside (g : GeometryData) (s : Scene) (c : ℕ) (me x : Caller) (n : Option WordName) (after : List ℕ) : Type 0 where
   pub stands : HoldsIn g s
@@ -301,6 +332,8 @@ pub record Aside (g : GeometryData) (s : Scene) (c : ℕ) (me x : Caller) (n : O
   pub duty : MindsDuty g me x n after
   pub loads : HasLoaded after x
   pub stamps : HasOwnStamps s.first s.history c x
+  pub unraised : (y : Size) → unraised_by y x ≡ unraised_by y me
+  pub walks : (w : Walk) → In w (walks_by x) → In w (walks_by me)
   pub before : (holder_by me).step ≡ Whole
   pub whole : (holder_by x).step ≡ Whole
   pub opened : open_by x ≡ open_by me
@@ -323,6 +356,8 @@ aside_keeps {g = g} {s = s} {c = c} {x = x} {n = n} aside =
       rises = rises_left aside.writes aside.no_generation;
       loads = aside.loads;
       stamps = own_stamps_grow s.first s.history [] c x aside.stamps;
+      tracks = tracks_same g s _ _ _ _ _ (λ k. refl) aside.unraised (unraised_left c aside.stands aside.at aside.writes aside.no_generation);
+      walks = λ w has. inl (aside.walks w has);
       entry = tt;
       tables = tables_whole c x aside.stands aside.at aside.writes aside.no_level1 aside.before aside.whole;
       opened = aside.opened;

@@ -1,5 +1,5 @@
 -- An agent as a caller: what each fact of the core reads of it.
-use Rattle.std.specs.Prelude.{◌≡◌, ℕ, ◌-◌, Bool, true, false, not, ◌&&◌, ◌==◌, List, [], ◌∷◌, ◌++◌, length, slice_index, Option, Some, None}
+use Rattle.std.specs.Prelude.{◌≡◌, ℕ, ◌-◌, Bool, true, false, not, ◌&&◌, ◌==◌, List, [], ◌∷◌, ◌++◌, length, slice_index, Option, Some, None, if◌then◌else◌}
 use Rattle.gpi_values.specs.declared.gpi.Gpi.{Gpi}
 use Rattle.gpt_descriptors.specs.declared.size.Size.{Size}
 use Rattle.gpt_descriptors.specs.declared.size.Size.TheVariants as size
@@ -101,6 +101,13 @@ agent_opens a = open_at a.geometry a.stage (task_of a)
 abbrev pub is_due_at : Stage → Size → Bool
 is_due_at (stage.Raising c z k) y = not (comes_before y z)
 is_due_at s y = false
+
+-- the pair, where it hasn't raised the generation of size y yet
+abbrev pub unraised_at : GeometryData → Size → Stage → Option Task → List (ℕ × Gpi)
+unraised_at g y s o = if is_due_at s y then open_at g s o else []
+
+abbrev pub agent_unraised : Size → AgentData → List (ℕ × Gpi)
+agent_unraised y a = unraised_at a.geometry y a.stage (task_of a)
 
 abbrev pub is_around : GeometryData → Size → ℕ → Option Task → Bool
 is_around g y region None = false

@@ -1,6 +1,6 @@
 -- Callers as plain data: what the facts of the core read of them, by their kind. What it is of an
 -- agent is in InnerAgentCaller, what of a processor in InnerCpuCaller.
-use Rattle.std.specs.Prelude.{◌≡◌, ℕ, zero, suc, ◌<◌, Bool, false, List, length, Option, Some, None}
+use Rattle.std.specs.Prelude.{◌≡◌, ℕ, zero, suc, ◌<◌, Bool, false, List, [], length, Option, Some, None}
 use Rattle.gpi_values.specs.declared.gpi.Gpi.{Gpi}
 use Rattle.gpt_descriptors.specs.declared.size.Size.{Size}
 use Rattle.gpt_descriptors.specs.Places.{GeometryData}
@@ -8,6 +8,7 @@ use Rattle.shared_words.specs.declared.act.Act.{Act}
 use Rattle.shared_words.specs.declared.act.StoreRun.{StoreRun}
 use Rattle.shared_words.specs.Acts.{store_in}
 use Rattle.table_meaning.specs.Equation.{Holder}
+use Rattle.walk_cache.specs.declared.walk.Walk.{Walk}
 use Rattle.history.specs.declared.call.Task.{Task}
 use Rattle.history.specs.declared.call.Answer.{Answer}
 use Rattle.history.specs.declared.entry.Entry.{Entry}
@@ -15,8 +16,8 @@ use Rattle.delegate_ops.specs.InnerAgents.{next_of, took_of, IsReadable}
 use Rattle.delegate_ops.specs.InnerRuns.{IsStoring}
 use Rattle.core_machine.specs.declared.caller.Caller.{Caller}
 use Rattle.core_machine.specs.declared.caller.Caller.TheVariants as caller
-use Rattle.core_machine.specs.InnerAgentCaller.{IsAgentOf, agent_made, agent_fresh, agent_left, agent_known, agent_makes, agent_own, agent_holds, agent_opens, agent_owes, agent_holder, agent_sees}
-use Rattle.core_machine.specs.InnerCpuCaller.{IsCpuOf, cpu_made, cpu_fresh, cpu_may_take, cpu_duty, cpu_left, cpu_loads, cpu_stamps, cpu_next, cpu_took, cpu_known, cpu_makes, cpu_own, cpu_holds, cpu_opens, cpu_owes, cpu_holder, cpu_sees}
+use Rattle.core_machine.specs.InnerAgentCaller.{IsAgentOf, agent_made, agent_fresh, agent_left, agent_known, agent_makes, agent_own, agent_holds, agent_opens, agent_unraised, agent_owes, agent_holder, agent_sees}
+use Rattle.core_machine.specs.InnerCpuCaller.{IsCpuOf, cpu_made, cpu_fresh, cpu_may_take, cpu_duty, cpu_left, cpu_loads, cpu_stamps, cpu_next, cpu_took, cpu_known, cpu_makes, cpu_own, cpu_holds, cpu_opens, cpu_unraised, cpu_walks, cpu_owes, cpu_holder, cpu_sees}
 
 -- ---- how a caller was made
 
@@ -99,6 +100,11 @@ abbrev pub HasOwnStamps : List Gpi → List Entry → ℕ → Caller → Type 0
 HasOwnStamps map h c (caller.Agent a) = Unit {0}
 HasOwnStamps map h c (caller.Cpu q) = cpu_stamps map h c q
 
+-- the walks that it keeps, and has found or made
+abbrev pub walks_by : Caller → List Walk
+walks_by (caller.Agent a) = []
+walks_by (caller.Cpu q) = cpu_walks q
+
 -- ---- runs of stores
 
 -- the caller after its next n acts, which are stores
@@ -139,6 +145,11 @@ holds n (caller.Cpu q) = cpu_holds n q
 abbrev pub open_by : Caller → List (ℕ × Gpi)
 open_by (caller.Agent a) = agent_opens a
 open_by (caller.Cpu q) = cpu_opens q
+
+-- those of them whose generation of this size it hasn't raised
+abbrev pub unraised_by : Size → Caller → List (ℕ × Gpi)
+unraised_by y (caller.Agent a) = agent_unraised y a
+unraised_by y (caller.Cpu q) = cpu_unraised y q
 
 -- it has changed a granule of this region, and not yet raised the generation of this size
 abbrev pub is_due : Size → ℕ → Caller → Bool

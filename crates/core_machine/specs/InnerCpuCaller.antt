@@ -17,7 +17,8 @@ use Rattle.history.specs.Stamps.{IsStamped, AreStamped}
 use Rattle.history.specs.InnerStamps.{IsDecided, walked}
 use Rattle.history.specs.Events.{CallEvent}
 pub use Rattle.processor.specs.InnerCpus.{duty_at}
-use Rattle.processor.specs.declared.walk.Walk.{Walk}
+use Rattle.processor.specs.declared.walk.Walk.{Walk as Found}
+use Rattle.walk_cache.specs.declared.walk.Walk.{Walk}
 use Rattle.processor.specs.InnerProgress.{Stage}
 use Rattle.processor.specs.InnerProgress as stage
 use Rattle.processor.specs.InnerCpus.{CpuData, IsCpu, IsReadable, task_of, fresh, next_of, took_of}
@@ -94,12 +95,12 @@ abbrev pub cpu_loads : List ℕ → CpuData → Type 0
 cpu_loads words q = loads_by q.geometry words q.stage (task_of q)
 
 -- access k of caller c was decided by this walk, and has its entry in the history
-abbrev pub DecidedBy : GeometryData → List Gpi → ℕ → ℕ → ℕ → Space → Walk → List Entry → Type 0
+abbrev pub DecidedBy : GeometryData → List Gpi → ℕ → ℕ → ℕ → Space → Found → List Entry → Type 0
 DecidedBy g map c k pa space w h =
     IsDecided map g.setup.first (granule_bytes g.setup) c k (granule_number g.setup pa) space w.gpi
     (permits_of w.gpi space) None w.reach w.lo h
 
-abbrev pub walk_access : Space → Walk → ℕ → Access
+abbrev pub walk_access : Space → Found → ℕ → Access
 walk_access space w hi = record {
   allowed = permits_of w.gpi space;
   gpi = w.gpi;
@@ -124,6 +125,11 @@ cpu_stamps map h c q =
     AreStamped map q.geometry.setup.first (granule_bytes q.geometry.setup) c q.tasks q.answers h
     × stamps_by q.geometry map c (length q.answers) q.stage (task_of q) h
 
+-- ---- the walks that it keeps
+
+abbrev pub cpu_walks : CpuData → List Walk
+cpu_walks q = []
+
 -- ---- it takes no lock and changes no granule
 
 abbrev pub cpu_holds : ℕ → CpuData → Bool
@@ -131,6 +137,9 @@ cpu_holds n q = false
 
 abbrev pub cpu_opens : CpuData → List (ℕ × Gpi)
 cpu_opens q = []
+
+abbrev pub cpu_unraised : Size → CpuData → List (ℕ × Gpi)
+cpu_unraised y q = []
 
 abbrev pub cpu_owes : Size → ℕ → CpuData → Bool
 cpu_owes y region q = false

@@ -18,7 +18,9 @@ use Rattle.history.specs.Calls.{entries_by}
 use Rattle.history.specs.Counts.{is_by, count_of}
 use Rattle.core_machine.specs.declared.caller.Caller.{Caller}
 use Rattle.core_machine.specs.Facts.{AreUndisturbed, IsCounted, generation_word, is_on_block}
-use Rattle.core_machine.specs.InnerCallers.{IsMade, call_of, caller_tasks, known_answers, own_of, holds, open_by, is_due, holder_by, number_by, duty_by, HasLoaded, HasOwnStamps, Sees}
+use Rattle.core_machine.specs.InnerCallers.{IsMade, call_of, caller_tasks, known_answers, own_of, holds, open_by, is_due, holder_by, number_by, duty_by, walks_by, HasLoaded, HasOwnStamps, Sees}
+use Rattle.walk_cache.specs.declared.walk.Walk.{Walk}
+use Rattle.core_machine.specs.InnerWalks.{In, WalkHolds, PairsNumbered}
 use Rattle.core_machine.specs.InnerScene.{Scene, state_in, map_in}
 
 pub record HasShape (g : GeometryData) (s : Scene) : Type 0 where
@@ -162,3 +164,6 @@ pub record HoldsIn (g : GeometryData) (s : Scene) : Type 0 where
       → HasLoaded s.words caller
   pub stamps : (c : ℕ) (caller : Caller) → slice_get s.callers c ≡ Some caller
       → HasOwnStamps s.first s.history c caller
+  pub walks : (c : ℕ) (caller : Caller) → slice_get s.callers c ≡ Some caller
+      → (w : Walk) → In w (walks_by caller) → WalkHolds g s.words (map_in s) s.callers w
+  pub pairs : PairsNumbered g s.first s.words s.callers s.history

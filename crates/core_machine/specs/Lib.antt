@@ -6,6 +6,7 @@ pub mod InnerAgentCaller
 pub mod InnerCpuCaller
 pub mod InnerCallers
 pub mod InnerScene
+pub mod InnerWalks
 pub mod InnerInvariant
 pub mod InnerLaw
 pub mod InnerCallerLaws
