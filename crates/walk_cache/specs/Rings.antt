@@ -22,15 +22,22 @@ reach_bytes reach.FiveTwelve = size_bytes size.FiveTwelve
 abbrev pub first_around : Reach → ℕ → ℕ
 first_around reach pa = pa / reach_bytes reach * reach_bytes reach
 
--- the address is one of the bytes of the walk's reach, from its first one on
+-- the address is one of the bytes of this reach, from this first one on
+abbrev pub covers_from : Reach → ℕ → ℕ → Bool
+covers_from reach first pa = nat_le first pa && nat_lt pa (first + reach_bytes reach)
+
 abbrev pub covers : Walk → ℕ → Bool
-covers walk pa = nat_le walk.first pa && nat_lt pa (walk.first + reach_bytes walk.reach)
+covers walk pa = covers_from walk.reach walk.first pa
 
--- ---- walks, oldest first
+-- ---- walks, oldest first, or what else is kept of them
 
--- the newest walk that covers the address; none where none covers it
+-- the newest that passes a test; none where none does
+abbrev pub newest_by : {A : Type 0} → (A → Bool) → List A → Option A
+newest_by test walks = find test (reverse walks)
+
+-- the newest walk that covers the address
 abbrev pub newest_of : List Walk → ℕ → Option Walk
-newest_of walks pa = find (λ walk. covers walk pa) (reverse walks)
+newest_of walks pa = newest_by (λ walk. covers walk pa) walks
 
 -- the walk is one of these, it covers the address, and no walk after it does
 pub record IsLastCovering (walks : List Walk) (pa : ℕ) (walk : Walk) : Type 0 where
@@ -40,8 +47,8 @@ pub record IsLastCovering (walks : List Walk) (pa : ℕ) (walk : Walk) : Type 0 
   pub here : covers walk pa ≡ true
   pub not_later : All (λ other. covers other pa ≡ false) later
 
--- the last n walks; all of them where there are fewer
-abbrev pub last_of : ℕ → List Walk → List Walk
+-- the last n; all of them where there are fewer
+abbrev pub last_of : {A : Type 0} → ℕ → List A → List A
 last_of n walks = drop (length walks - n) walks
 
 -- a walk is noted in a ring: it is appended, and the oldest is dropped where the ring is full
