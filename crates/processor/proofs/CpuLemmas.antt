@@ -26,7 +26,7 @@ use Rattle.invalidate.specs.Generations.{gen_load_of}
 use Rattle.std.proofs.lemmas.List.Elements.{All-nil}
 use Rattle.gpi_values.specs.declared.gpi.Gpi.{Gpi}
 use Rattle.walk_cache.specs.declared.walk.Walk.{Walk}
-use Rattle.walk_cache.specs.Rings.{RingData, newest_of}
+use Rattle.walk_cache.specs.Rings.{RingData, IsRing, newest_of}
 use Rattle.history.specs.declared.call.OldWalk.{OldWalk}
 use Rattle.history.specs.declared.call.Via.{Via}
 use Rattle.history.specs.declared.call.Via.TheVariants as via
@@ -115,27 +115,27 @@ ends_is_cpu q pa space None r s is under_way goes = goes
 pub look_at : (q : CpuData) (pa : ℕ) (space : Space) → IsCpu q → task_of q ≡ Some (task.Look pa space) → IsAccessAt q.geometry pa q.stage
 look_at q pa space is under_way = subst (λ (o : Option Task). IsAt q.geometry o q.stage) under_way is.stage
 
-goes_is_cpu : (q : CpuData) (pa : ℕ) (space : Space) (old : ℕ) → IsCpu q → task_of q ≡ Some (task.Look pa space)
-    → IsCpu (goes_to q (ring_after q.stage q.cache) (after_at q.geometry q.cache.walks pa space q.stage old))
-goes_is_cpu q pa space old is under_way =
+pub goes_is_cpu : (q : CpuData) (pa : ℕ) (space : Space) (old : ℕ) (r : RingData) (s : Stage) → IsCpu q → task_of q ≡ Some (task.Look pa space)
+    → r ≡ ring_after q.stage q.cache → s ≡ after_at q.geometry q.cache.walks pa space q.stage old → IsCpu (goes_to q r s)
+goes_is_cpu q pa space old r s is under_way ring goes =
     let at = look_at q pa space is under_way in
-    let later = after_at q.geometry q.cache.walks pa space q.stage old in
     record {
       geometry = is.geometry;
       number = is.number;
       accesses = is.accesses;
       answered = is.answered;
       acts = is.acts;
-      ring = ring_is q.stage q.cache is.ring;
-      keeps = ring_keeps q.stage q.cache ∙ is.keeps;
-      walks = ring_walks q.geometry pa q.stage q.cache is.walks at;
-      stage = subst (λ (o : Option Task). IsAt q.geometry o later) (sym under_way)
-          (after_is q.geometry q.cache.walks pa space q.stage old (access_at q (task.Look pa space) is under_way) is.walks at);
+      ring = subst IsRing (sym ring) (ring_is q.stage q.cache is.ring);
+      keeps = ap (λ (x : RingData). x.ring) ring ∙ ring_keeps q.stage q.cache ∙ is.keeps;
+      walks = subst (λ (x : RingData). All (IsWalk q.geometry) x.walks) (sym ring) (ring_walks q.geometry pa q.stage q.cache is.walks at);
+      stage = subst (λ (o : Option Task). IsAt q.geometry o s) (sym under_way)
+          (subst (IsAccessAt q.geometry pa) (sym goes)
+          (after_is q.geometry q.cache.walks pa space q.stage old (access_at q (task.Look pa space) is under_way) is.walks at));
     }
 
 took_at_is_cpu : (q : CpuData) (o : Option Task) (old : ℕ) → task_of q ≡ o → IsCpu q → IsCpu (took_at q o old)
 took_at_is_cpu q None old under_way is = is
-took_at_is_cpu q (Some (task.Look pa space)) old under_way is = ends_is_cpu q pa space (answer_at q.stage) _ _ is under_way (goes_is_cpu q pa space old is under_way)
+took_at_is_cpu q (Some (task.Look pa space)) old under_way is = ends_is_cpu q pa space (answer_at q.stage) _ _ is under_way (goes_is_cpu q pa space old _ _ is under_way refl refl)
 took_at_is_cpu q (Some (task.Delegate pa source)) old under_way is = is
 took_at_is_cpu q (Some (task.Undelegate pa source)) old under_way is = is
 took_at_is_cpu q (Some task.Unknown) old under_way is = is
