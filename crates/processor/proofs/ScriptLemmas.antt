@@ -41,14 +41,14 @@ use Rattle.processor.proofs.CpuLemmas.{access_at, acts_at, look_at, look_unblock
 -- ---- the answered calls
 
 -- the access under way is answered
-calls_and_one : (g : GeometryData) (p c n : ℕ) (tasks : List Task) (kept : List Walk) (answers : List Answer) (then later : List Walk) (calls own : List CallEvent) (t : Task) (a : Answer)
-    → slice_get tasks (length answers) ≡ Some t → IsCall g p c (n + length answers) t then a later own → AreCallEvents g p c n tasks kept answers then calls
+calls_and_one : (g : GeometryData) (p c n : ℕ) (tasks : List Task) (kept : List Walk) (answers : List Answer) (mid later : List Walk) (calls own : List CallEvent) (t : Task) (a : Answer)
+    → slice_get tasks (length answers) ≡ Some t → IsCall g p c (n + length answers) t mid a later own → AreCallEvents g p c n tasks kept answers mid calls
     → AreCallEvents g p c n tasks kept (answers ++ a ∷ []) later (calls ++ own)
-calls_and_one g p c n [] kept [] then later calls own t a here call are = absurd cc
-calls_and_one g p c n (x ∷ tasks) kept [] then later calls own t a here call are =
+calls_and_one g p c n [] kept [] mid later calls own t a here call are = absurd cc
+calls_and_one g p c n (x ∷ tasks) kept [] mid later calls own t a here call are =
     let same : t ≡ x = cc in
     let number : n + 0 ≡ n = omega arith in
-    let renamed : IsCall g p c n x then a later own = subst (λ (y : Task). IsCall g p c n y then a later own) same (subst (λ (m : ℕ). IsCall g p c m t then a later own) number call) in (
+    let renamed : IsCall g p c n x mid a later own = subst (λ (y : Task). IsCall g p c n y mid a later own) same (subst (λ (m : ℕ). IsCall g p c m t mid a later own) number call) in (
       own,
       [],
       later,
@@ -56,15 +56,15 @@ calls_and_one g p c n (x ∷ tasks) kept [] then later calls own t a here call a
       subst (λ (l : List Walk). IsCall g p c n x l a later own) are.0 renamed,
       (refl, refl),
     )
-calls_and_one g p c n [] kept (b ∷ answers) then later calls own t a here call are = absurd are
-calls_and_one g p c n (x ∷ tasks) kept (b ∷ answers) then later calls own t a here call are =
+calls_and_one g p c n [] kept (b ∷ answers) mid later calls own t a here call are = absurd are
+calls_and_one g p c n (x ∷ tasks) kept (b ∷ answers) mid later calls own t a here call are =
     let number : n + suc (length answers) ≡ n + 1 + length answers = omega arith in (
       are.0,
       are.1 ++ own,
       are.2,
       ap (λ (es : List CallEvent). es ++ own) are.3 ∙ append_assoc are.0 are.1 own,
       are.4,
-      calls_and_one g p c (n + 1) tasks are.2 answers then later are.1 own t a here (subst (λ (m : ℕ). IsCall g p c m t then a later own) number call) are.5,
+      calls_and_one g p c (n + 1) tasks are.2 answers mid later are.1 own t a here (subst (λ (m : ℕ). IsCall g p c m t mid a later own) number call) are.5,
     )
 
 -- the accesses that have no acts are answered
@@ -181,7 +181,7 @@ part_found g p c n pa space kept now k m w gpi place old events part there found
     there = there;
     found = found;
     gives = gives;
-    parts = one_after _ (tries g pa m) (loads g pa k) events _ part.1.parts;
+    parts = ap (λ (es : List CallEvent). es ++ deciding_load g c n pa space place old gpi ∷ []) part.1.parts;
   },
 )
 
@@ -202,7 +202,8 @@ part_closed g p c n pa space kept now w m old events part = inr (record {
   there = part.1.there;
   found = part.1.found;
   gives = part.1.gives;
-  parts = one_after _ (tries g pa m) _ events _ part.1.parts;
+  parts = ap (λ (es : List CallEvent). es ++ plain (gen_load_of g (tag_size_of w.reach) pa) old ∷ []) part.1.parts
+      ∙ append_assoc (plain (on_act g p) part.1.set ∷ tries g pa m ++ loads g pa part.1.generations) (deciding_load g c n pa space part.1.place part.1.word part.1.gpi ∷ []) _;
   is = refl;
   noted = ap (λ (l : List Walk). last_of g.setup.ring (l ++ w ∷ [])) part.0;
 })
@@ -304,7 +305,7 @@ walks g p c tasks answers kept r (stage.Walking k m) pa space calls last next ol
 walks g p c tasks answers kept r (stage.Closing w m) pa space calls last next old here unblocked inside keeps at readable are part e =
     let same : gen_load_of g (tag_size_of w.reach) pa ≡ next = cc in
     let closed = part_closed g p c (length answers) pa space kept r.walks w m old last part in
-    let later : RingData = record { walks = last_of g.setup.ring (r.walks ++ w ∷ []); ring = r.ring } in
+    let later : RingData = record { walks = last_of g.setup.ring (r.walks ++ w ∷ []); ring = g.setup.ring } in
     rw (← same, part.1.gives, keeps) (goes_on g p c tasks answers kept later _ pa space calls last _ here are closed)
 walks g p c tasks answers kept r (stage.Leaving a) pa space calls last next old here unblocked inside keeps at readable are part e =
     let same : off_act g p ≡ next = cc in
