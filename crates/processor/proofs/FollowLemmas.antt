@@ -180,9 +180,10 @@ decides_few : (g : GeometryData) (p c n pa : ℕ) (space : Space) (kept : List W
 decides_few g p c n pa space kept given later events (inl hits) = let long = ap (λ (es : List CallEvent). length es) hits.0.parts in omega (arith, long)
 decides_few g p c n pa space kept given later events (inr walks) =
     let long = ap (λ (es : List CallEvent). length es) walks.parts in
-    let split = length-append (tries g pa walks.missed) (loads g pa walks.generations
-        ++ deciding_load g c n pa space walks.place walks.word walks.gpi ∷ plain (gen_load_of g (tag_size_of walks.walk.reach) pa) walks.hi ∷ []) in
-    omega (arith, long, split, tries_few g pa walks.missed)
+    let loaded = length-append (tries g pa walks.missed) (loads g pa walks.generations) in
+    let split = length-append (tries g pa walks.missed ++ loads g pa walks.generations)
+    (deciding_load g c n pa space walks.place walks.word walks.gpi ∷ plain (gen_load_of g (tag_size_of walks.walk.reach) pa) walks.hi ∷ []) in
+    omega (arith, long, loaded, split, tries_few g pa walks.missed)
 
 look_few : (g : GeometryData) (p c n pa : ℕ) (space : Space) (o : Option Gpi) (kept : List Walk) (given : Answer) (later : List Walk) (events : List CallEvent)
     → IsLook g p c n pa space o kept given later events → length events ≤ 8
