@@ -1,4 +1,5 @@
 pub mod HistoryLemmas
 pub mod ListLemmas
+pub mod RingLemmas
 pub mod StampLemmas
 pub mod ValueLemmas

@@ -24,9 +24,10 @@ use Rattle.history.specs.Entries.{changes_granule}
 use Rattle.history.specs.States.{State, start, after_entry, state_after}
 use Rattle.history.specs.Legality.{is_still, is_seen}
 use Rattle.history.specs.Counts.{count_around}
-use Rattle.history.specs.InnerStamps.{OldWalk, walked, IsDecided}
+use Rattle.history.specs.declared.call.OldWalk.{OldWalk}
+use Rattle.history.specs.InnerStamps.{IsDecided}
 use Rattle.history.specs.Values.{SawAmong, is_change_around}
-use Rattle.history.specs.Stamps.{WasOld, gpi_after, Gave, SawBetween, AreStamps, FitStamps, IsStamped, IsStampedCall, AreStamped, HasStamps}
+use Rattle.history.specs.Stamps.{WasOld, gpi_after, Gave, SawBetween, AreStamps, FitStamps, IsStamped, IsStampedCall, AreStamped, HasStamps, walked}
 use Rattle.history.proofs.HistoryLemmas.{state_after-append}
 use Rattle.history.proofs.ListLemmas.{get_set_other, get_append}
 

@@ -4,23 +4,13 @@ use Rattle.gpi_values.specs.declared.gpi.Gpi.{Gpi}
 use Rattle.gpi_values.specs.declared.gpi.Space.{Space}
 use Rattle.gpt_descriptors.specs.declared.size.Reach.{Reach}
 use Rattle.gpt_descriptors.specs.Sizes.{tag_size_of}
+use Rattle.history.specs.declared.call.OldWalk.{OldWalk}
 use Rattle.history.specs.declared.call.Via.{Via}
 use Rattle.history.specs.declared.call.Via.TheVariants as via
 use Rattle.history.specs.declared.entry.Entry.{Entry}
 use Rattle.history.specs.declared.entry.Entry.TheVariants as entry
 use Rattle.history.specs.Counts.{count_around}
-use Rattle.history.specs.Stamps.{gpi_after, WasOld}
-
--- a kept walk that wasn't used: its reach, its tag, and the generation at its tag's region
-pub record OldWalk : Type 0 where
-  pub reach : Reach
-  pub tag : ℕ
-  pub at : ℕ
-
--- how an access that walked the tables found its GPI
-abbrev pub walked : Option OldWalk → Reach → ℕ → ℕ → Via
-walked None reach lo hi = via.Cold reach lo hi
-walked (Some old) reach lo hi = via.Missed old.reach old.tag old.at reach lo hi
+use Rattle.history.specs.Stamps.{gpi_after, walked, WasOld}
 
 -- The access has its entry in the history and was decided by the map's GPI, after the generation of
 -- the region for a walk of this reach was loaded as lo. What is said of the entries before it stays

@@ -6,4 +6,5 @@ pub mod Counts
 pub mod Events
 pub mod Values
 pub mod Stamps
+pub mod Rings
 pub mod InnerStamps

@@ -1,5 +1,5 @@
 -- The stamps of accesses: between which changes of a region an access saw its granule.
-use Rattle.std.specs.Prelude.{◌≡◌, ℕ, ◌+◌, ◌/◌, ◌<◌, ◌≤◌, false, List, ◌∷◌, ◌++◌, slice_get, Option, Some}
+use Rattle.std.specs.Prelude.{◌≡◌, ℕ, ◌+◌, ◌/◌, ◌<◌, ◌≤◌, false, List, ◌∷◌, ◌++◌, slice_get, Option, Some, None}
 use Rattle.gpi_values.specs.declared.gpi.Gpi.{Gpi}
 use Rattle.gpi_values.specs.declared.gpi.Space.{Space}
 use Rattle.gpt_descriptors.specs.declared.size.Size.{Size}
@@ -10,6 +10,7 @@ use Rattle.history.specs.declared.call.Task.TheVariants as task
 use Rattle.history.specs.declared.call.Answer.{Answer}
 use Rattle.history.specs.declared.call.Answer.TheVariants as answer
 use Rattle.history.specs.declared.call.Access.{Access}
+use Rattle.history.specs.declared.call.OldWalk.{OldWalk}
 use Rattle.history.specs.declared.call.Via.{Via}
 use Rattle.history.specs.declared.call.Via.TheVariants as via
 use Rattle.history.specs.declared.entry.Entry.{Entry}
@@ -65,6 +66,11 @@ pub record WasOld (first bytes granule : ℕ) (reach : Reach) (tag at : ℕ) (be
     : Type 0 where
   pub newer : tag < at
   pub most : at ≤ count_around first bytes granule before (tag_size_of reach)
+
+-- how an access found its GPI that walked the tables: where there was a kept walk, it wasn't used
+abbrev pub walked : Option OldWalk → Reach → ℕ → ℕ → Via
+walked None reach lo hi = via.Cold reach lo hi
+walked (Some old) reach lo hi = via.Missed old.reach old.tag old.at reach lo hi
 
 -- What the stamps of an access say, by how it found its GPI: a hit has one generation for both
 -- stamps, and without a hit the GPI is the map's.

@@ -41,6 +41,15 @@ pub struct Access {
     pub via: Via,
 }
 
+/// A kept walk that covers the address of an access and wasn't used: its reach, its tag, and the
+/// generation of its region, which was loaded as `at`.
+#[derive(Clone, Copy, Debug, PartialEq, Eq)]
+pub struct OldWalk {
+    pub reach: Reach,
+    pub tag: u64,
+    pub at: u64,
+}
+
 /// How an access found its GPI. `lo`, `hi` and `at` are loaded generations, `tag` that of a kept
 /// walk.
 #[derive(Clone, Copy, Debug, PartialEq, Eq)]

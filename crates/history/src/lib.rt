@@ -9,9 +9,10 @@ mod judging;
 mod law;
 mod outcome;
 mod replay;
+mod rings;
 mod values;
 
-pub use call::{Access, Answer, Task, Via};
+pub use call::{Access, Answer, OldWalk, Task, Via};
 pub use entry::Entry;
 pub use gpi_values::{Gpi, Source, Space};
 pub use gpt_descriptors::{Generations, Geometry, Reach, Size};
@@ -20,4 +21,5 @@ pub use law::settled_means_final;
 pub use outcome::Outcome;
 pub use region_plan::RunMap;
 pub use replay::Replay;
+pub use rings::{Named, ring_says};
 pub use values::{saw, values_after, values_mean_their_history};

@@ -1,6 +1,6 @@
 -- Processors after an act are processors, one with an access left has a next act, and acts keep to the words of the geometry.
-use Rattle.std.proofs.Common.{◌≡◌, ℕ, zero, suc, ◌+◌, ◌/◌, ◌≤◌, ◌<◌, ◌⊎◌, ◌++◌, ◌∷◌, [], List, true, not, Some, None, Option, length, drop, refl, sym, ap, ◌∙◌, subst, arith, inl, inr, length-append, length-drop}
-use Rattle.std.specs.Prelude.{slice_get, is_some}
+use Rattle.std.proofs.Common.{◌≡◌, ℕ, zero, suc, ◌+◌, ◌/◌, ◌≤◌, ◌<◌, ◌⊎◌, ◌++◌, ◌∷◌, [], List, Bool, true, false, not, Some, None, Option, length, drop, refl, sym, ap, ◌∙◌, subst, arith, inl, inr, length-append, length-drop, if◌then◌else◌}
+use Rattle.std.specs.Prelude.{slice_get, is_some, ◌==◌}
 use Rattle.std.specs.List.{All}
 use Rattle.std.specs.Option.{option_map}
 use Rattle.std.proofs.lemmas.Option.{slice_get_within, get_or_from_slice_get}
@@ -23,10 +23,17 @@ use Rattle.gpt_descriptors.specs.declared.size.Generations.{Generations}
 use Rattle.gpt_descriptors.specs.Sizes.{with_generation}
 use Rattle.invalidate.specs.Duty.{on_act, off_act}
 use Rattle.invalidate.specs.Generations.{gen_load_of}
-use Rattle.processor.specs.declared.walk.Walk.{Walk}
-use Rattle.processor.specs.Accesses.{walk_of}
-use Rattle.processor.specs.InnerProgress.{act_at, after_load, after_word, after_at, answer_at}
-use Rattle.processor.specs.InnerCpus.{CpuData, IsCpu, IsAt, HasActs, task_of, idle_answer, answered_first, idle_answers, fresh, has_ended, next_at, next_of, after_answer, ends_or_goes, took_at, took_of, duty_at}
+use Rattle.std.proofs.lemmas.List.Elements.{All-nil}
+use Rattle.gpi_values.specs.declared.gpi.Gpi.{Gpi}
+use Rattle.walk_cache.specs.declared.walk.Walk.{Walk}
+use Rattle.walk_cache.specs.Rings.{RingData, IsRing, newest_of}
+use Rattle.history.specs.declared.call.OldWalk.{OldWalk}
+use Rattle.history.specs.declared.call.Via.{Via}
+use Rattle.history.specs.declared.call.Via.TheVariants as via
+use Rattle.processor.specs.Accesses.{walk_of, walk_gpi}
+use Rattle.processor.specs.InnerProgress.{act_at, no_generations, old_walk, after_search, after_decision, after_load, after_word, after_at, ring_after, answer_at}
+use Rattle.processor.specs.InnerCpus.{CpuData, IsCpu, IsAt, IsAccessAt, IsWalk, HasActs, task_of, idle_answer, answered_first, idle_answers, fresh, has_ended, next_at, next_of, after_answer, goes_to, ends_or_goes, took_at, took_of, duty_at}
+use Rattle.processor.proofs.WalkLemmas.{ring_is, ring_walks, ring_keeps, after_is}
 
 -- ---- the answers of accesses without acts
 
@@ -55,9 +62,12 @@ get_drop (t ∷ tasks) (suc n) i = get_drop tasks n i ∙ ap (slice_get (t ∷ t
 
 -- ---- steps
 
-starts_at : (o : Option Task) → IsAt o stage.Starting
-starts_at None = refl
-starts_at (Some t) = tt
+starts_at : (g : GeometryData) (o : Option Task) → IsAt g o stage.Starting
+starts_at g None = refl
+starts_at g (Some (task.Look pa space)) = tt
+starts_at g (Some (task.Delegate pa source)) = refl
+starts_at g (Some (task.Undelegate pa source)) = refl
+starts_at g (Some task.Unknown) = refl
 
 -- before its first act
 pub fresh_is_cpu : (g : GeometryData) (p : ℕ) (tasks : List Task) → IsGeometry g → p < g.cpus → All (IsAccess g) tasks → IsCpu (fresh g p tasks)
@@ -67,7 +77,10 @@ fresh_is_cpu g p tasks geometry number accesses = record {
   accesses = accesses;
   answered = idle_few g tasks;
   acts = idle_then_acts g tasks;
-  stage = starts_at (task_of (fresh g p tasks));
+  ring = record { low = geometry.setup.ring_low; high = geometry.setup.ring_high; within = omega arith };
+  keeps = refl;
+  walks = All-nil (IsWalk g);
+  stage = starts_at g (task_of (fresh g p tasks));
 }
 
 answer_is_cpu : (q : CpuData) (t : Task) (answer : Answer) → IsCpu q → task_of q ≡ Some t → IsCpu (after_answer q answer)
@@ -82,23 +95,47 @@ answer_is_cpu q t answer is under_way =
       accesses = is.accesses;
       answered = omega (arith, count, within, idle_few q.geometry rest, length-drop (length q.answers + 1) q.tasks);
       acts = subst (HasActs q.geometry) (get_drop q.tasks (length q.answers + 1) (length (idle_answers q.geometry rest)) ∙ ap (slice_get q.tasks) (sym count)) (idle_then_acts q.geometry rest);
-      stage = starts_at (task_of (after_answer q answer));
+      ring = is.ring;
+      keeps = is.keeps;
+      walks = is.walks;
+      stage = starts_at q.geometry (task_of (after_answer q answer));
     }
 
-ends_is_cpu : (q : CpuData) (t : Task) (o : Option Answer) (s : Stage) → IsCpu q → task_of q ≡ Some t → IsCpu (ends_or_goes q o s)
-ends_is_cpu q t (Some answer) s is under_way = answer_is_cpu q t answer is under_way
-ends_is_cpu q t None s is under_way = record {
-  geometry = is.geometry;
-  number = is.number;
-  accesses = is.accesses;
-  answered = is.answered;
-  acts = is.acts;
-  stage = subst (λ (o : Option Task). IsAt o s) (sym under_way) tt;
-}
+-- each task is an access inside the space
+pub access_at : (q : CpuData) (t : Task) → IsCpu q → task_of q ≡ Some t → IsAccess q.geometry t
+access_at q t is under_way =
+    subst (IsAccess q.geometry) (get_or_from_slice_get q.tasks (length q.answers) t t under_way)
+    (is.accesses (length q.answers) t (slice_get_within q.tasks (length q.answers) t under_way))
+
+ends_is_cpu : (q : CpuData) (pa : ℕ) (space : Space) (o : Option Answer) (r : RingData) (s : Stage) → IsCpu q → task_of q ≡ Some (task.Look pa space) → IsCpu (goes_to q r s) → IsCpu (ends_or_goes q o r s)
+ends_is_cpu q pa space (Some answer) r s is under_way goes = answer_is_cpu q (task.Look pa space) answer is under_way
+ends_is_cpu q pa space None r s is under_way goes = goes
+
+-- the walk that an access under way has found or made
+pub look_at : (q : CpuData) (pa : ℕ) (space : Space) → IsCpu q → task_of q ≡ Some (task.Look pa space) → IsAccessAt q.geometry pa q.stage
+look_at q pa space is under_way = subst (λ (o : Option Task). IsAt q.geometry o q.stage) under_way is.stage
+
+pub goes_is_cpu : (q : CpuData) (pa : ℕ) (space : Space) (old : ℕ) (r : RingData) (s : Stage) → IsCpu q → task_of q ≡ Some (task.Look pa space)
+    → r ≡ ring_after q.stage q.cache → s ≡ after_at q.geometry q.cache.walks pa space q.stage old → IsCpu (goes_to q r s)
+goes_is_cpu q pa space old r s is under_way ring goes =
+    let at = look_at q pa space is under_way in
+    record {
+      geometry = is.geometry;
+      number = is.number;
+      accesses = is.accesses;
+      answered = is.answered;
+      acts = is.acts;
+      ring = subst IsRing (sym ring) (ring_is q.stage q.cache is.ring);
+      keeps = ap (λ (x : RingData). x.ring) ring ∙ ring_keeps q.stage q.cache ∙ is.keeps;
+      walks = subst (λ (x : RingData). All (IsWalk q.geometry) x.walks) (sym ring) (ring_walks q.geometry pa q.stage q.cache is.walks at);
+      stage = subst (λ (o : Option Task). IsAt q.geometry o s) (sym under_way)
+          (subst (IsAccessAt q.geometry pa) (sym goes)
+          (after_is q.geometry q.cache.walks pa space q.stage old (access_at q (task.Look pa space) is under_way) is.walks at));
+    }
 
 took_at_is_cpu : (q : CpuData) (o : Option Task) (old : ℕ) → task_of q ≡ o → IsCpu q → IsCpu (took_at q o old)
 took_at_is_cpu q None old under_way is = is
-took_at_is_cpu q (Some (task.Look pa space)) old under_way is = ends_is_cpu q _ (answer_at space q.stage) _ is under_way
+took_at_is_cpu q (Some (task.Look pa space)) old under_way is = ends_is_cpu q pa space (answer_at q.stage) _ _ is under_way (goes_is_cpu q pa space old _ _ is under_way refl refl)
 took_at_is_cpu q (Some (task.Delegate pa source)) old under_way is = is
 took_at_is_cpu q (Some (task.Undelegate pa source)) old under_way is = is
 took_at_is_cpu q (Some task.Unknown) old under_way is = is
@@ -107,15 +144,15 @@ took_at_is_cpu q (Some task.Unknown) old under_way is = is
 pub took_is_cpu : (q : CpuData) (old : ℕ) → IsCpu q → IsCpu (took_of q old)
 took_is_cpu q old is = took_at_is_cpu q (task_of q) old refl is
 
-ends_keeps : (q : CpuData) (o : Option Answer) (s : Stage)
-    → ((ends_or_goes q o s).geometry ≡ q.geometry) × ((ends_or_goes q o s).number ≡ q.number) × ((ends_or_goes q o s).tasks ≡ q.tasks)
-ends_keeps q None s = (refl, refl, refl)
-ends_keeps q (Some answer) s = (refl, refl, refl)
+ends_keeps : (q : CpuData) (o : Option Answer) (r : RingData) (s : Stage)
+    → ((ends_or_goes q o r s).geometry ≡ q.geometry) × ((ends_or_goes q o r s).number ≡ q.number) × ((ends_or_goes q o r s).tasks ≡ q.tasks)
+ends_keeps q None r s = (refl, refl, refl)
+ends_keeps q (Some answer) r s = (refl, refl, refl)
 
 took_at_keeps : (q : CpuData) (o : Option Task) (old : ℕ)
     → ((took_at q o old).geometry ≡ q.geometry) × ((took_at q o old).number ≡ q.number) × ((took_at q o old).tasks ≡ q.tasks)
 took_at_keeps q None old = (refl, refl, refl)
-took_at_keeps q (Some (task.Look pa space)) old = ends_keeps q (answer_at space q.stage) (after_at q.geometry pa q.stage old)
+took_at_keeps q (Some (task.Look pa space)) old = ends_keeps q (answer_at q.stage) (ring_after q.stage q.cache) (after_at q.geometry q.cache.walks pa space q.stage old)
 took_at_keeps q (Some (task.Delegate pa source)) old = (refl, refl, refl)
 took_at_keeps q (Some (task.Undelegate pa source)) old = (refl, refl, refl)
 took_at_keeps q (Some task.Unknown) old = (refl, refl, refl)
@@ -124,12 +161,6 @@ pub took_keeps : (q : CpuData) (old : ℕ) → ((took_of q old).geometry ≡ q.g
 took_keeps q old = took_at_keeps q (task_of q) old
 
 -- ---- the access under way
-
--- each task is an access inside the space
-pub access_at : (q : CpuData) (t : Task) → IsCpu q → task_of q ≡ Some t → IsAccess q.geometry t
-access_at q t is under_way =
-    subst (IsAccess q.geometry) (get_or_from_slice_get q.tasks (length q.answers) t t under_way)
-    (is.accesses (length q.answers) t (slice_get_within q.tasks (length q.answers) t under_way))
 
 mapped_none : {X Y : Type 0} (f : X → Y) (o : Option X) → option_map f o ≡ None → o ≡ None
 mapped_none f None e = refl
@@ -151,10 +182,11 @@ look_place g pa space is inside acts =
 
 act_there : (g : GeometryData) (p pa place : ℕ) (s : Stage) → l1_place_of g pa ≡ Some place → is_some (act_at g p pa s) ≡ true
 act_there g p pa place stage.Starting there = refl
-act_there g p pa place (stage.Loading z k) there = refl
-act_there g p pa place (stage.Walking k) there = rw there refl
-act_there g p pa place (stage.Closing w) there = refl
-act_there g p pa place (stage.Leaving w hi) there = refl
+act_there g p pa place (stage.Trying w) there = refl
+act_there g p pa place (stage.Loading z k m) there = refl
+act_there g p pa place (stage.Walking k m) there = rw there refl
+act_there g p pa place (stage.Closing w m) there = refl
+act_there g p pa place (stage.Leaving a) there = refl
 
 next_at_there : (q : CpuData) (o : Option Task) → IsCpu q → task_of q ≡ o → is_some (next_at q o) ≡ is_some o
 next_at_there q None is under_way = refl
@@ -194,25 +226,31 @@ some_mapped f (Some x) y e = (x, refl, cc)
 abbrev IsOn : GeometryData → Act → WordName → Type 0
 IsOn g next n = IsWordName g n × (place_in next ≡ place_of g n)
 
+generation_word : (g : GeometryData) (z : Size) (pa : ℕ) (next : Act) → pa < space_bytes g.setup → Some (gen_load_of g z pa) ≡ Some next → (n : WordName) × IsOn g next n
+generation_word g z pa next inside e =
+    let same : act.Load (place_of g (Generation z (pa / size_bytes z))) ≡ next = cc in (Generation z (pa / size_bytes z), (generation_named g z pa inside, ap place_in (sym same)))
+
 act_word : (g : GeometryData) (p pa : ℕ) (s : Stage) (next : Act) → IsGeometry g → p < g.cpus → pa < space_bytes g.setup → act_at g p pa s ≡ Some next → (n : WordName) × IsOn g next n
 act_word g p pa stage.Starting next is cpu inside e = (Duty p, (cpu, let same : place_of g (Duty p) ≡ place_in next = cc in sym same))
-act_word g p pa (stage.Loading z k) next is cpu inside e =
-    let same : act.Load (place_of g (Generation z (pa / size_bytes z))) ≡ next = cc in (Generation z (pa / size_bytes z), (generation_named g z pa inside, ap place_in (sym same)))
-act_word g p pa (stage.Walking k) next is cpu inside e =
+act_word g p pa (stage.Trying w) next is cpu inside e = generation_word g (tag_size_of w.reach) pa next inside e
+act_word g p pa (stage.Loading z k m) next is cpu inside e = generation_word g z pa next inside e
+act_word g p pa (stage.Walking k m) next is cpu inside e =
     let load = some_mapped act.Load (l1_place_of g pa) next e in
     let index = some_mapped (λ (i : ℕ). place_of g (Level1 i)) (l1_index_of g pa) load.0 load.1 in
     (Level1 index.0, (index_within g pa index.0 is index.1, ap place_in (sym load.2) ∙ sym index.2))
-act_word g p pa (stage.Closing w) next is cpu inside e =
-    let z = tag_size_of w.reach in
-    let same : act.Load (place_of g (Generation z (pa / size_bytes z))) ≡ next = cc in (Generation z (pa / size_bytes z), (generation_named g z pa inside, ap place_in (sym same)))
-act_word g p pa (stage.Leaving w hi) next is cpu inside e = (Duty p, (cpu, let same : place_of g (Duty p) ≡ place_in next = cc in sym same))
+act_word g p pa (stage.Closing w m) next is cpu inside e = generation_word g (tag_size_of w.reach) pa next inside e
+act_word g p pa (stage.Leaving a) next is cpu inside e = (Duty p, (cpu, let same : place_of g (Duty p) ≡ place_in next = cc in sym same))
+
+generation_writes : (g : GeometryData) (p pa : ℕ) (z : Size) (next : Act) → Some (gen_load_of g z pa) ≡ Some next → (next ≡ act.Load (place_in next)) ⊎ (place_in next ≡ place_of g (Duty p))
+generation_writes g p pa z next e = let same : act.Load (gen_place_of g z pa) ≡ next = cc in rw (← same) (inl refl)
 
 act_writes : (g : GeometryData) (p pa : ℕ) (s : Stage) (next : Act) → act_at g p pa s ≡ Some next → (next ≡ act.Load (place_in next)) ⊎ (place_in next ≡ place_of g (Duty p))
 act_writes g p pa stage.Starting next e = let same : place_of g (Duty p) ≡ place_in next = cc in inr (sym same)
-act_writes g p pa (stage.Loading z k) next e = let same : act.Load (gen_place_of g z pa) ≡ next = cc in rw (← same) (inl refl)
-act_writes g p pa (stage.Walking k) next e = let load = some_mapped act.Load (l1_place_of g pa) next e in rw (← load.2) (inl refl)
-act_writes g p pa (stage.Closing w) next e = let same : act.Load (gen_place_of g (tag_size_of w.reach) pa) ≡ next = cc in rw (← same) (inl refl)
-act_writes g p pa (stage.Leaving w hi) next e = let same : place_of g (Duty p) ≡ place_in next = cc in inr (sym same)
+act_writes g p pa (stage.Trying w) next e = generation_writes g p pa (tag_size_of w.reach) next e
+act_writes g p pa (stage.Loading z k m) next e = generation_writes g p pa z next e
+act_writes g p pa (stage.Walking k m) next e = let load = some_mapped act.Load (l1_place_of g pa) next e in rw (← load.2) (inl refl)
+act_writes g p pa (stage.Closing w m) next e = generation_writes g p pa (tag_size_of w.reach) next e
+act_writes g p pa (stage.Leaving a) next e = let same : place_of g (Duty p) ≡ place_in next = cc in inr (sym same)
 
 next_at_word : (q : CpuData) (o : Option Task) (next : Act) → IsCpu q → task_of q ≡ o → next_at q o ≡ Some next → (n : WordName) × IsOn q.geometry next n
 next_at_word q None next is under_way e = absurd cc
@@ -243,23 +281,41 @@ next_writes q next is e = next_at_writes q (task_of q) next e
 
 -- ---- the duty word
 
-loaded_duty : (z : Size) (k : Generations) → duty_at (after_load z k) ≡ 1
-loaded_duty size.Two k = refl
-loaded_duty size.ThirtyTwo k = refl
-loaded_duty size.FiveTwelve k = refl
+search_duty : (o : Option Walk) → duty_at (after_search o) ≡ 1
+search_duty None = refl
+search_duty (Some w) = refl
 
-word_duty : (k : Generations) (o : Option Walk) → duty_at (after_word k o) ≡ 1
-word_duty k None = refl
-word_duty k (Some w) = refl
+decision_duty : (s : Stage) (o : Option Gpi) (space : Space) (v : Via) → duty_at s ≡ 1 → duty_at (after_decision s o space v) ≡ 1
+decision_duty s None space v on = on
+decision_duty s (Some gpi) space v on = refl
+
+choice_duty : (b : Bool) (s t : Stage) → duty_at s ≡ 1 → duty_at t ≡ 1 → duty_at (if b then s else t) ≡ 1
+choice_duty true s t on_s on_t = on_s
+choice_duty false s t on_s on_t = on_t
+
+loaded_duty : (z : Size) (k : Generations) (m : Option OldWalk) → duty_at (after_load z k m) ≡ 1
+loaded_duty size.Two k m = refl
+loaded_duty size.ThirtyTwo k m = refl
+loaded_duty size.FiveTwelve k m = refl
+
+word_duty : (k : Generations) (m : Option OldWalk) (o : Option Walk) → duty_at (after_word k m o) ≡ 1
+word_duty k m None = refl
+word_duty k m (Some w) = refl
 
 look_duty : (q : CpuData) (p pa : ℕ) (space : Space) (s : Stage) (next : Act) (old : ℕ) → act_at q.geometry p pa s ≡ Some next
-    → written next (duty_at s) ≡ duty_at (ends_or_goes q (answer_at space s) (after_at q.geometry pa s old)).stage
-look_duty q p pa space stage.Starting next old e = let same : on_act q.geometry p ≡ next = cc in rw (← same) refl
-look_duty q p pa space (stage.Loading z k) next old e = let same : gen_load_of q.geometry z pa ≡ next = cc in rw (← same) (sym (loaded_duty z (with_generation z old k)))
-look_duty q p pa space (stage.Walking k) next old e =
-    let load = some_mapped act.Load (l1_place_of q.geometry pa) next e in rw (← load.2) (sym (word_duty k (walk_of q.geometry pa k old)))
-look_duty q p pa space (stage.Closing w) next old e = let same : gen_load_of q.geometry (tag_size_of w.reach) pa ≡ next = cc in rw (← same) refl
-look_duty q p pa space (stage.Leaving w hi) next old e = let same : off_act q.geometry p ≡ next = cc in rw (← same) refl
+    → written next (duty_at s) ≡ duty_at (ends_or_goes q (answer_at s) (ring_after s q.cache) (after_at q.geometry q.cache.walks pa space s old)).stage
+look_duty q p pa space stage.Starting next old e = let same : on_act q.geometry p ≡ next = cc in rw (← same) (sym (search_duty (newest_of q.cache.walks pa)))
+look_duty q p pa space (stage.Trying w) next old e =
+    let same : gen_load_of q.geometry (tag_size_of w.reach) pa ≡ next = cc in
+    rw (← same) (sym (choice_duty (old == w.tag) _ (stage.Loading size.Two no_generations (Some (old_walk w old)))
+    (decision_duty (stage.Trying w) (walk_gpi q.geometry pa w) space (via.Hit w.reach w.tag) refl) refl))
+look_duty q p pa space (stage.Loading z k m) next old e = let same : gen_load_of q.geometry z pa ≡ next = cc in rw (← same) (sym (loaded_duty z (with_generation z old k) m))
+look_duty q p pa space (stage.Walking k m) next old e =
+    let load = some_mapped act.Load (l1_place_of q.geometry pa) next e in rw (← load.2) (sym (word_duty k m (walk_of pa k old)))
+look_duty q p pa space (stage.Closing w m) next old e =
+    let same : gen_load_of q.geometry (tag_size_of w.reach) pa ≡ next = cc in
+    rw (← same) (sym (decision_duty (stage.Closing w m) (walk_gpi q.geometry pa w) space _ refl))
+look_duty q p pa space (stage.Leaving a) next old e = let same : off_act q.geometry p ≡ next = cc in rw (← same) refl
 
 next_at_duty : (q : CpuData) (o : Option Task) (next : Act) (old : ℕ) → next_at q o ≡ Some next → written next (duty_at q.stage) ≡ duty_at (took_at q o old).stage
 next_at_duty q None next old e = absurd cc

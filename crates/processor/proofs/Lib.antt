@@ -1,4 +1,6 @@
+pub mod WalkLemmas
 pub mod CpuLemmas
 pub mod ScriptLemmas
 pub mod FollowLemmas
 pub mod EntryLemmas
+pub mod RingLemmas

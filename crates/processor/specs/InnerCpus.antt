@@ -1,23 +1,27 @@
 -- A processor as plain data, its next act, and the processor after an act.
-use Rattle.std.specs.Prelude.{◌≡◌, ℕ, ◌+◌, ◌≤◌, ◌<◌, Bool, not, List, [], ◌∷◌, ◌++◌, length, drop, slice_get, Option, Some, None, IsTrue, is_some}
+use Rattle.std.specs.Prelude.{◌≡◌, ℕ, ◌+◌, ◌≤◌, ◌<◌, Bool, not, List, [], ◌∷◌, ◌++◌, length, drop, slice_get, Option, Some, None, IsTrue, is_some, true}
 use Rattle.std.specs.List.{All}
 use Rattle.std.specs.Option.{option_map}
-use Rattle.gpt_descriptors.specs.Entries.{l1_entry}
+use Rattle.gpt_descriptors.specs.Sizes.{space_bytes}
+use Rattle.gpt_descriptors.specs.Entries.{l1_entry, word_reach}
 use Rattle.gpt_descriptors.specs.Places.{GeometryData, IsGeometry, block_gpi_of}
 use Rattle.shared_words.specs.declared.act.Act.{Act}
+use Rattle.walk_cache.specs.declared.walk.Walk.{Walk}
+use Rattle.walk_cache.specs.Rings.{RingData, IsRing, first_around, covers}
 use Rattle.history.specs.declared.call.Task.{Task}
 use Rattle.history.specs.declared.call.Task.TheVariants as task
 use Rattle.history.specs.declared.call.Answer.{Answer}
 use Rattle.processor.specs.InnerProgress.{Stage}
 use Rattle.processor.specs.InnerProgress as stage
 use Rattle.processor.specs.Accesses.{IsAccess, block_answer}
-use Rattle.processor.specs.InnerProgress.{act_at, after_at, answer_at}
+use Rattle.processor.specs.InnerProgress.{act_at, after_at, ring_after, answer_at}
 
 pub record CpuData : Type 0 where
   pub geometry : GeometryData
   pub number : ℕ
   pub tasks : List Task
   pub answers : List Answer
+  pub cache : RingData
   pub stage : Stage
 
 -- ---- tasks
@@ -48,6 +52,7 @@ fresh g p tasks = record {
   number = p;
   tasks = tasks;
   answers = idle_answers g tasks;
+  cache = record { walks = []; ring = g.setup.ring };
   stage = stage.Starting;
 }
 
@@ -76,27 +81,30 @@ after_answer q answer = record {
   tasks = q.tasks;
   answers =
       (q.answers ++ answer ∷ []) ++ idle_answers q.geometry (drop (length q.answers + 1) q.tasks);
+  cache = q.cache;
   stage = stage.Starting;
 }
 
--- the access under way goes on
-abbrev pub goes_to : CpuData → Stage → CpuData
-goes_to q s = record {
+-- the access under way goes on, and the ring is this
+abbrev pub goes_to : CpuData → RingData → Stage → CpuData
+goes_to q r s = record {
   geometry = q.geometry;
   number = q.number;
   tasks = q.tasks;
   answers = q.answers;
+  cache = r;
   stage = s;
 }
 
 -- the processor after an act that ends its access with this answer, or after which it goes on so
-abbrev pub ends_or_goes : CpuData → Option Answer → Stage → CpuData
-ends_or_goes q (Some answer) s = after_answer q answer
-ends_or_goes q None s = goes_to q s
+abbrev pub ends_or_goes : CpuData → Option Answer → RingData → Stage → CpuData
+ends_or_goes q (Some answer) r s = after_answer q answer
+ends_or_goes q None r s = goes_to q r s
 
 abbrev pub took_at : CpuData → Option Task → ℕ → CpuData
 took_at q (Some (task.Look pa space)) old =
-    ends_or_goes q (answer_at space q.stage) (after_at q.geometry pa q.stage old)
+    ends_or_goes q (answer_at q.stage) (ring_after q.stage q.cache)
+    (after_at q.geometry q.cache.walks pa space q.stage old)
 took_at q t old = q
 
 -- the processor after an act that answered this word
@@ -112,7 +120,7 @@ duty_at s = 1
 
 -- a word that is loaded as an L1 word is a descriptor
 abbrev pub IsReadable : Stage → ℕ → Type 0
-IsReadable (stage.Walking k) old = IsTrue (is_some (l1_entry old))
+IsReadable (stage.Walking k m) old = IsTrue (is_some (l1_entry old))
 IsReadable s old = Unit {0}
 
 -- the task under way has acts
@@ -120,10 +128,27 @@ abbrev pub HasActs : GeometryData → Option Task → Type 0
 HasActs g None = Unit {0}
 HasActs g (Some t) = idle_answer g t ≡ None
 
+-- a walk that was made in the protected space: its word is a descriptor of its reach, and it covers
+-- the aligned bytes of that
+pub record IsWalk (g : GeometryData) (w : Walk) : Type 0 where
+  pub word : word_reach w.word ≡ Some w.reach
+  pub aligned : first_around w.reach w.first ≡ w.first
+  pub inside : w.first < space_bytes g.setup
+
+-- and it covers this address
+abbrev pub IsWalkAt : GeometryData → ℕ → Walk → Type 0
+IsWalkAt g pa w = IsWalk g w × (covers w pa ≡ true)
+
+-- the walk that an access under way has found or made is one around its address
+abbrev pub IsAccessAt : GeometryData → ℕ → Stage → Type 0
+IsAccessAt g pa (stage.Trying w) = IsWalkAt g pa w
+IsAccessAt g pa (stage.Closing w m) = IsWalkAt g pa w
+IsAccessAt g pa s = Unit {0}
+
 -- a processor without an access left is where it began
-abbrev pub IsAt : Option Task → Stage → Type 0
-IsAt None s = s ≡ stage.Starting
-IsAt (Some t) s = Unit {0}
+abbrev pub IsAt : GeometryData → Option Task → Stage → Type 0
+IsAt g (Some (task.Look pa space)) s = IsAccessAt g pa s
+IsAt g o s = s ≡ stage.Starting
 
 pub record IsCpu (q : CpuData) : Type 0 where
   pub geometry : IsGeometry q.geometry
@@ -131,4 +156,7 @@ pub record IsCpu (q : CpuData) : Type 0 where
   pub accesses : All (IsAccess q.geometry) q.tasks
   pub answered : length q.answers ≤ length q.tasks
   pub acts : HasActs q.geometry (task_of q)
-  pub stage : IsAt (task_of q) q.stage
+  pub ring : IsRing q.cache
+  pub keeps : q.cache.ring ≡ q.geometry.setup.ring
+  pub walks : All (IsWalk q.geometry) q.cache.walks
+  pub stage : IsAt q.geometry (task_of q) q.stage

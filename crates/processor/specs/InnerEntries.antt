@@ -1,5 +1,6 @@
 -- The entries that a processor's call makes, by how far it has come.
-use Rattle.std.specs.Prelude.{ℕ, List, [], ◌∷◌, ◌++◌, length, Option, Some, None}
+use Rattle.std.specs.Prelude.{ℕ, List, [], ◌∷◌, ◌++◌, length, ◌==◌, Option, Some, None, if◌then◌else◌}
+use Rattle.gpi_values.specs.declared.gpi.Gpi.{Gpi}
 use Rattle.gpi_values.specs.declared.gpi.Space.{Space}
 use Rattle.gpt_descriptors.specs.Sizes.{granule_bytes}
 use Rattle.gpt_descriptors.specs.Places.{GeometryData}
@@ -9,30 +10,34 @@ use Rattle.history.specs.declared.entry.Entry.{Entry}
 use Rattle.history.specs.Calls.{answered_entries}
 use Rattle.processor.specs.InnerProgress.{Stage}
 use Rattle.processor.specs.InnerProgress as stage
-use Rattle.processor.specs.declared.walk.Walk.{Walk}
-use Rattle.processor.specs.Accesses.{walk_of, looked_entry}
+use Rattle.walk_cache.specs.declared.walk.Walk.{Walk}
+use Rattle.processor.specs.Accesses.{walk_of, walk_gpi, looked_entry}
 use Rattle.processor.specs.InnerCpus.{CpuData, task_of}
 
--- the entry of an access that has found this walk, if it has
+-- the entry of an access that this GPI decides, if there is one
+abbrev pub decided_entries : GeometryData → ℕ → ℕ → ℕ → Space → Option Gpi → List Entry
+decided_entries g c n pa space None = []
+decided_entries g c n pa space (Some gpi) = looked_entry g c n pa space gpi ∷ []
+
+-- that of one that has made this walk, if it has
 abbrev pub walk_entries : GeometryData → ℕ → ℕ → ℕ → Space → Option Walk → List Entry
 walk_entries g c n pa space None = []
-walk_entries g c n pa space (Some w) = looked_entry g c n pa space w.gpi ∷ []
+walk_entries g c n pa space (Some w) = decided_entries g c n pa space (walk_gpi g pa w)
 
 -- the entries that the next act of a task makes, where it answers this word
 abbrev pub made_at : GeometryData → ℕ → ℕ → Stage → Option Task → ℕ → List Entry
-made_at g c n (stage.Walking k) (Some (task.Look pa space)) old =
-    walk_entries g c n pa space (walk_of g pa k old)
+made_at g c n (stage.Trying w) (Some (task.Look pa space)) old =
+    if old == w.tag then decided_entries g c n pa space (walk_gpi g pa w) else []
+made_at g c n (stage.Walking k m) (Some (task.Look pa space)) old =
+    walk_entries g c n pa space (walk_of pa k old)
 made_at g c n s t old = []
-
--- the walk of an access that has loaded its L1 word
-abbrev pub walk_at : Stage → Option Walk
-walk_at (stage.Closing w) = Some w
-walk_at (stage.Leaving w hi) = Some w
-walk_at s = None
 
 -- the entries that the call under way has made
 abbrev pub entries_at : GeometryData → ℕ → ℕ → Stage → Option Task → List Entry
-entries_at g c n s (Some (task.Look pa space)) = walk_entries g c n pa space (walk_at s)
+entries_at g c n (stage.Closing w m) (Some (task.Look pa space)) =
+    decided_entries g c n pa space (walk_gpi g pa w)
+entries_at g c n (stage.Leaving a) (Some (task.Look pa space)) =
+    looked_entry g c n pa space a.gpi ∷ []
 entries_at g c n s t = []
 
 -- all entries that a processor, caller c, has made

@@ -5,7 +5,6 @@ use Rattle.gpi_values.specs.declared.gpi.Space.{Space}
 use Rattle.gpt_descriptors.specs.declared.size.Size.{Size}
 use Rattle.gpt_descriptors.specs.declared.size.Size.TheVariants as size
 use Rattle.gpt_descriptors.specs.declared.size.Generations.{Generations}
-use Rattle.gpt_descriptors.specs.Sizes.{tag_size_of}
 use Rattle.gpt_descriptors.specs.Places.{GeometryData, l1_place_of}
 use Rattle.invalidate.specs.Duty.{on_act}
 use Rattle.invalidate.specs.Generations.{gen_load_of}
@@ -14,9 +13,12 @@ use Rattle.history.specs.declared.call.Task.TheVariants as task
 use Rattle.history.specs.Events.{CallEvent, plain}
 use Rattle.processor.specs.InnerProgress.{Stage}
 use Rattle.processor.specs.InnerProgress as stage
-use Rattle.processor.specs.declared.walk.Walk.{Walk}
-use Rattle.processor.specs.Accesses.{walk_of}
-use Rattle.processor.specs.Script.{loads, word_load, AreCallEvents}
+use Rattle.walk_cache.specs.declared.walk.Walk.{Walk}
+use Rattle.walk_cache.specs.Rings.{newest_of}
+use Rattle.history.specs.declared.call.OldWalk.{OldWalk}
+use Rattle.gpi_values.specs.declared.gpi.Gpi.{Gpi}
+use Rattle.processor.specs.Accesses.{walk_of, walk_gpi}
+use Rattle.processor.specs.Script.{IsMissed, tries, loads, deciding_load, Decides, AreCallEvents}
 use Rattle.processor.specs.InnerCpus.{CpuData, task_of}
 
 -- the loads of generations before that of this size
@@ -26,42 +28,64 @@ loads_before g pa size.ThirtyTwo k = plain (gen_load_of g size.Two pa) k.two ∷
 loads_before g pa size.FiveTwelve k = plain (gen_load_of g size.Two pa) k.two
     ∷ plain (gen_load_of g size.ThirtyTwo pa) k.thirty_two ∷ []
 
--- the duty word is set, and these loads are made
-pub record HasLoaded (g : GeometryData) (p : ℕ) (made events : List CallEvent) : Type 0 where
-  pub set : ℕ
-  pub parts : events ≡ plain (on_act g p) set ∷ made
-
--- the L1 word is loaded, and these acts are made after it
-pub record HasFound (g : GeometryData) (p c n pa : ℕ) (space : Space) (w : Walk)
+-- the duty word is set, no kept walk is hit, and these loads are made
+pub record HasLoaded (g : GeometryData) (p pa : ℕ) (kept : List Walk) (missed : Option OldWalk)
     (made events : List CallEvent) : Type 0 where
+  pub set : ℕ
+  pub newest : IsMissed (newest_of kept pa) missed
+  pub parts : events ≡ plain (on_act g p) set ∷ tries g pa missed ++ made
+
+-- the duty word is set, and this walk is found
+pub record HasSearched (g : GeometryData) (p pa : ℕ) (kept : List Walk) (w : Walk)
+    (events : List CallEvent) : Type 0 where
+  pub set : ℕ
+  pub newest : newest_of kept pa ≡ Some w
+  pub parts : events ≡ plain (on_act g p) set ∷ []
+
+-- the L1 word is loaded
+pub record HasFound (g : GeometryData) (p c n pa : ℕ) (space : Space) (kept : List Walk) (w : Walk)
+    (missed : Option OldWalk) (events : List CallEvent) : Type 0 where
   pub set : ℕ
   pub generations : Generations
   pub place : ℕ
   pub word : ℕ
+  pub gpi : Gpi
+  pub newest : IsMissed (newest_of kept pa) missed
   pub there : l1_place_of g pa ≡ Some place
-  pub found : walk_of g pa generations word ≡ Some w
-  pub parts : events ≡ plain (on_act g p) set ∷ loads g pa generations
-      ++ word_load g c n pa space place word w.gpi ∷ made
+  pub found : walk_of pa generations word ≡ Some w
+  pub gives : walk_gpi g pa w ≡ Some gpi
+  pub parts : events ≡ plain (on_act g p) set ∷ tries g pa missed ++ loads g pa generations
+      ++ deciding_load g c n pa space place word gpi ∷ []
 
--- the events of an access under way that has come so far
-abbrev pub IsPartOf : GeometryData → ℕ → ℕ → ℕ → ℕ → Space → Stage → List CallEvent → Type 0
-IsPartOf g p c n pa space stage.Starting events = events ≡ []
-IsPartOf g p c n pa space (stage.Loading z k) events =
-    HasLoaded g p (loads_before g pa z k) events
-IsPartOf g p c n pa space (stage.Walking k) events = HasLoaded g p (loads g pa k) events
-IsPartOf g p c n pa space (stage.Closing w) events = HasFound g p c n pa space w [] events
-IsPartOf g p c n pa space (stage.Leaving w hi) events =
-    HasFound g p c n pa space w (plain (gen_load_of g (tag_size_of w.reach) pa) hi ∷ []) events
+-- the events of an access under way that has come so far, with the walks that were kept when it
+-- began, and those that are kept now
+abbrev pub IsPartOf : GeometryData → ℕ → ℕ → ℕ → ℕ → Space → List Walk → List Walk → Stage
+    → List CallEvent → Type 0
+IsPartOf g p c n pa space kept now stage.Starting events = (now ≡ kept) × (events ≡ [])
+IsPartOf g p c n pa space kept now (stage.Trying w) events =
+    (now ≡ kept) × HasSearched g p pa kept w events
+IsPartOf g p c n pa space kept now (stage.Loading z k m) events =
+    (now ≡ kept) × HasLoaded g p pa kept m (loads_before g pa z k) events
+IsPartOf g p c n pa space kept now (stage.Walking k m) events =
+    (now ≡ kept) × HasLoaded g p pa kept m (loads g pa k) events
+IsPartOf g p c n pa space kept now (stage.Closing w m) events =
+    (now ≡ kept) × HasFound g p c n pa space kept w m events
+IsPartOf g p c n pa space kept now (stage.Leaving a) events =
+    Decides g p c n pa space kept a now events
 
 -- the events of the call under way
-abbrev pub IsPrefix : GeometryData → ℕ → ℕ → ℕ → Stage → Option Task → List CallEvent → Type 0
-IsPrefix g p c n s (Some (task.Look pa space)) events = IsPartOf g p c n pa space s events
-IsPrefix g p c n s t events = events ≡ []
+abbrev pub IsPrefix : GeometryData → ℕ → ℕ → ℕ → List Walk → List Walk → Stage → Option Task
+    → List CallEvent → Type 0
+IsPrefix g p c n kept now s (Some (task.Look pa space)) events =
+    IsPartOf g p c n pa space kept now s events
+IsPrefix g p c n kept now s t events = (now ≡ kept) × (events ≡ [])
 
 -- Caller c, a processor, has come so far by these events.
 pub record HasWalked (c : ℕ) (q : CpuData) (events : List CallEvent) : Type 0 where
   pub calls : List CallEvent
   pub last : List CallEvent
+  pub kept : List Walk
   pub parts : events ≡ calls ++ last
-  pub answered : AreCallEvents q.geometry q.number c 0 q.tasks q.answers calls
-  pub under_way : IsPrefix q.geometry q.number c (length q.answers) q.stage (task_of q) last
+  pub answered : AreCallEvents q.geometry q.number c 0 q.tasks [] q.answers kept calls
+  pub under_way :
+      IsPrefix q.geometry q.number c (length q.answers) kept q.cache.walks q.stage (task_of q) last

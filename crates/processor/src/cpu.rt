@@ -13,14 +13,17 @@ use history::{Access, Answer, Task, Via};
 use shared_words::{Act, Words};
 use std::alloc::{AllocError, Global};
 use std::marker::Model;
+use walk_cache::WalkCache;
 
-/// A processor: a list of accesses that it makes one after another, act by act.
+/// A processor: a list of accesses that it makes one after another, act by act, and its ring of kept
+/// walks.
 #[derive(Debug, Drop)]
 pub struct Cpu {
     geometry: Geometry,
     number: u32,
     tasks: Vec<Task>,
     answers: Vec<Answer>,
+    cache: WalkCache,
     progress: Progress,
 }
 
@@ -36,6 +39,7 @@ impl Model for Cpu {
       number = q.number;
       tasks = q.tasks.items;
       answers = q.answers.items;
+      cache = q.cache;
       stage = stage_of q.progress;
     } };
 
@@ -44,6 +48,7 @@ impl Model for Cpu {
       number = q.number;
       tasks = q.tasks.items;
       answers = q.answers.items;
+      cache = q.cache;
       stage = stage_of q.progress;
     }) × (length q.tasks.items ≤ vec_capacity q.answers) };
 }
@@ -106,6 +111,7 @@ impl Cpu {
         requires accesses { All (IsAccess geometry) tasks.items }
         ensures { IfOk result (λ q. q ≡ fresh geometry number tasks.items) }
     {
+        let cache = WalkCache::new(alloc, geometry.setup().ring())?;
         let mut answers = Vec::with_capacity(alloc, tasks.len())?;
         answer_idle(&geometry, &tasks, &mut answers);
         Ok(Cpu {
@@ -113,6 +119,7 @@ impl Cpu {
             number,
             tasks,
             answers,
+            cache,
             progress: Progress::new(),
         })
     }
@@ -153,9 +160,12 @@ impl Cpu {
         ensures { self.new ≡ took_of self.old old }
     {
         if let Some(Task::Look(pa, space)) = self.task() {
-            match self.progress.answer(space) {
+            match self.progress.answer() {
                 Some(answer) => self.end(answer),
-                None => self.progress.took(&self.geometry, pa, old),
+                None => {
+                    self.progress
+                        .took(&self.geometry, &mut self.cache, pa, space, old)
+                }
             }
         }
     }
@@ -171,8 +181,15 @@ impl Cpu {
         ensures made { result ≡ is_some (next_of self.old) }
     {
         if let Some(Task::Look(pa, space)) = self.task() {
-            if self.progress.turn(&self.geometry, self.number, pa, words) {
-                if let Some(answer) = self.progress.answer(space) {
+            let Cpu {
+                geometry,
+                number,
+                cache,
+                progress,
+                ..
+            } = self;
+            if progress.turn(geometry, cache, *number, pa, space, words) {
+                if let Some(answer) = self.progress.answer() {
                     self.end(answer);
                 }
             }

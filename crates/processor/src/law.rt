@@ -4,6 +4,8 @@ ghost use Rattle.shared_words.specs.Acts.{place_in, written};
 ghost use Rattle.history.specs.declared.call.Task.{Task};
 ghost use Rattle.history.specs.declared.call.Answer.{Answer};
 ghost use Rattle.history.specs.Events.{CallEvent};
+ghost use Rattle.history.specs.Rings.{AreRinged};
+ghost use Rattle.walk_cache.specs.declared.walk.Walk.{Walk};
 ghost use Rattle.gpt_descriptors.specs.Places.{GeometryData, IsGeometry, WordName, IsWordName};
 ghost use Rattle.gpt_descriptors.specs.Places.{Duty, place_of, word_count};
 ghost use Rattle.std.specs.List.{All};
@@ -39,17 +41,30 @@ pub fn processors_follow_their_script()
 pub fn processors_make_their_entries()
     ensures start { (g : GeometryData) (p : ℕ) (tasks : List Task) (c : ℕ)
         → own_entries c (fresh g p tasks) ≡ [] }
-    ensures step { (c : ℕ) (q : CpuData) (next : Act) (old : ℕ) → next_of q ≡ Some next
+    ensures step { (c : ℕ) (q : CpuData) (events : List CallEvent) (next : Act) (old : ℕ)
+        → HasWalked c q events → next_of q ≡ Some next
         → own_entries c (took_of q old) ≡ own_entries c q
         ++ made_at q.geometry c (length q.answers) q.stage (task_of q) old }
 {}
 
-/// An access makes at most seven acts, and less than seven before it is answered.
-pub fn accesses_make_seven_acts()
-    ensures answered { (g : GeometryData) (p c n : ℕ) (t : Task) (given : Answer)
-        (events : List CallEvent) → IsCall g p c n t given events → length events ≤ 7 }
-    ensures under_way { (g : GeometryData) (p c n : ℕ) (t : Task) (events : List CallEvent)
-        → IsUnderWay g p c n t events → length events < 7 }
+/// An access makes at most eight acts, and less than eight before it is answered.
+pub fn accesses_make_eight_acts()
+    ensures answered { (g : GeometryData) (p c n : ℕ) (t : Task) (kept : List Walk) (given : Answer)
+        (later : List Walk) (events : List CallEvent)
+        → IsCall g p c n t kept given later events → length events ≤ 8 }
+    ensures under_way { (g : GeometryData) (p c n : ℕ) (t : Task) (kept : List Walk)
+        (events : List CallEvent) → IsUnderWay g p c n t kept events → length events < 8 }
+{}
+
+/// The answers of a processor are those of a ring: each access was decided as the newest kept walk
+/// that covers its address says, of the last walks that its earlier answers name. Whoever follows
+/// the script answers so.
+pub fn processors_answer_by_their_rings()
+    ensures walked { (c : ℕ) (q : CpuData) (events : List CallEvent) → HasWalked c q events
+        → AreRinged q.geometry.setup.ring [] q.tasks q.answers }
+    ensures follows { (g : GeometryData) (p c : ℕ) (tasks : List Task) (answers : List Answer)
+        (events : List CallEvent) → Follows g p c tasks answers events
+        → AreRinged g.setup.ring [] tasks answers }
 {}
 
 /// What is known of a processor by how it was made alone, whatever its acts are answered: an act

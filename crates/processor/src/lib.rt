@@ -1,6 +1,7 @@
 //! Accesses as acts: a processor goes through a list of accesses, one act on the shared words at a
-//! time. Each walks the granule protection tables (DDI 0487, granule protection checks) while
-//! agents may change them; nothing is kept from one access to the next.
+//! time. Each is decided by the tables (DDI 0487, granule protection checks), which agents may change
+//! meanwhile: by a walk of them, or by one that the processor has kept in its ring and whose
+//! generation is still its tag.
 #![tactic(auto)]
 
 mod cpu;
@@ -8,13 +9,12 @@ mod law;
 mod progress;
 #[cfg(test)]
 mod tests;
-mod walk;
 
 pub use cpu::Cpu;
-pub use history::{Access, Answer, Task, Via};
+pub use history::{Access, Answer, OldWalk, Task, Via};
 pub use law::{
-    accesses_make_seven_acts, processors_follow_their_script, processors_keep_to_their_words,
-    processors_make_their_entries,
+    accesses_make_eight_acts, processors_answer_by_their_rings, processors_follow_their_script,
+    processors_keep_to_their_words, processors_make_their_entries,
 };
 pub use progress::{Phase, Progress};
-pub use walk::Walk;
+pub use walk_cache::Walk;

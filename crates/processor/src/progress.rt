@@ -1,27 +1,34 @@
-ghost use Rattle.std.specs.Prelude.{◌≡◌, ◌<◌, IsSome, IsTrue, is_some};
+ghost use Rattle.std.specs.Prelude.{◌≡◌, ◌<◌, IsSome, IsTrue, Some, is_some};
+ghost use Rattle.gpi_values.specs.declared.gpi.Gpi.{Gpi};
 ghost use Rattle.gpt_descriptors.specs.Sizes.{space_bytes, with_generation};
 ghost use Rattle.gpt_descriptors.specs.Entries.{l1_entry};
 ghost use Rattle.shared_words.specs.Next.{words_after, MayBeMade};
-ghost use Rattle.processor.specs.Accesses.{walk_of};
+ghost use Rattle.walk_cache.specs.Rings.{newest_of};
+ghost use Rattle.history.specs.Stamps.{walked};
+ghost use Rattle.processor.specs.Accesses.{walk_of, walk_gpi, table_access};
 ghost use Rattle.processor.specs.InnerProgress.{stage_of, no_generations, act_at, next_in, old_in};
-ghost use Rattle.processor.specs.InnerProgress.{after_load, after_word, after_at, answer_at, is_last};
+ghost use Rattle.processor.specs.InnerProgress.{after_search, after_try, after_load, after_word};
+ghost use Rattle.processor.specs.InnerProgress.{after_decision, after_at, ring_after, answer_at};
+ghost use Rattle.processor.specs.InnerProgress.{is_last};
 ghost use Rattle.processor.specs.InnerProgress as stage;
-ghost use Rattle.processor.specs.InnerCpus.{IsReadable};
+ghost use Rattle.processor.specs.InnerCpus.{IsReadable, IsAccessAt};
 
-use crate::walk::Walk;
-use gpi_values::{Gpi, Space};
+use gpi_values::{Gpi, Space, permits};
 #[cfg(test)]
 use gpt_descriptors::decode_l1;
-use gpt_descriptors::{Generations, Geometry, Reach, Size, tag_size};
-use history::Answer;
+use gpt_descriptors::{Generations, Geometry, Reach, Size, l1_field, tag_size, word_reach};
+use history::{Access, Answer, OldWalk, Via};
 use invalidate::{gen_load, off, on};
 use shared_words::{Act, Words};
+use walk_cache::{Walk, WalkCache};
 
 /// What the next act of an access does.
 #[derive(Clone, Copy, Debug, PartialEq, Eq)]
 pub enum Phase {
     /// It sets the duty word.
     Starting,
+    /// A kept walk covers the address. It loads the generation that the walk has as its tag.
+    Trying,
     /// It loads the generation of this size.
     Loading(Size),
     /// The generations are loaded. It loads the L1 word.
@@ -45,10 +52,20 @@ pub struct Progress {
     phase: Phase,
     /// The generations that it has loaded before the L1 word; those that it hasn't are 0.
     generations: Generations,
-    /// What it has found in the L1 word, or the access before it has.
+    /// The kept walk that it has found, or the walk that it has made; or one of an access before it.
     walk: Walk,
-    /// The generation that it, or the access before it, has loaded after the L1 word.
-    hi: u64,
+    /// The kept walk that it has found and that it can't use.
+    missed: Option<OldWalk>,
+    /// What it has found out, or the access before it has.
+    access: Access,
+}
+
+/// The GPI that a walk gives the granule of an address.
+fn gpi_of(geometry: &Geometry, pa: u64, walk: &Walk) -> Gpi
+    requires descriptor { IsSome (l1_entry walk.now.word) }
+    ensures { walk_gpi geometry.now pa walk.now ≡ Some result }
+{
+    l1_field(walk.word, geometry.place_in_word(pa))
 }
 
 impl Progress {
@@ -61,10 +78,17 @@ impl Progress {
             generations: NO_GENERATIONS,
             walk: Walk {
                 reach: Reach::Word,
-                gpi: Gpi::NoAccess,
-                lo: 0,
+                first: 0,
+                word: 0,
+                tag: 0,
             },
-            hi: 0,
+            missed: None,
+            access: Access {
+                allowed: false,
+                gpi: Gpi::NoAccess,
+                level: 1,
+                via: Via::Still,
+            },
         }
     }
 
@@ -76,11 +100,11 @@ impl Progress {
     }
 
     /// The answer with which the next act, the clearing of the duty word, ends the access.
-    pub fn answer(&self, space: Space) -> Option<Answer>
-        ensures { result ≡ answer_at space (stage_of self.now) }
+    pub fn answer(&self) -> Option<Answer>
+        ensures { result ≡ answer_at (stage_of self.now) }
     {
         match self.phase {
-            Phase::Leaving => Some(self.walk.answer(space, self.hi)),
+            Phase::Leaving => Some(Answer::Seen(self.access)),
             _ => None,
         }
     }
@@ -93,6 +117,7 @@ impl Progress {
     {
         match self.phase {
             Phase::Starting => Some(on(geometry, cpu)),
+            Phase::Trying => Some(gen_load(geometry, tag_size(self.walk.reach), pa)),
             Phase::Loading(size) => Some(gen_load(geometry, size, pa)),
             Phase::Walking => match geometry.l1_place(pa) {
                 Some(place) => Some(Act::Load(place)),
@@ -103,18 +128,59 @@ impl Progress {
         }
     }
 
-    /// The duty word was set.
-    fn started(&mut self)
-        ensures { stage_of self.new ≡ stage.Loading Size.Two no_generations }
+    /// The tables have to be walked; this kept walk can't be used.
+    fn begin_walk(&mut self, missed: Option<OldWalk>)
+        ensures { stage_of self.new ≡ stage.Loading Size.Two no_generations missed }
     {
+        self.missed = missed;
         self.generations = NO_GENERATIONS;
         self.phase = Phase::Loading(Size::Two);
+    }
+
+    /// The duty word was set. The ring is searched.
+    fn started(&mut self, cache: &WalkCache, pa: u64)
+        ensures { stage_of self.new ≡ after_search (newest_of cache.now.walks pa) }
+    {
+        match cache.newest(pa) {
+            Some(walk) => {
+                self.walk = walk;
+                self.phase = Phase::Trying;
+            }
+            None => self.begin_walk(None),
+        }
+    }
+
+    /// The access is decided.
+    fn decide(&mut self, space: Space, gpi: Gpi, via: Via)
+        ensures { stage_of self.new ≡ stage.Leaving (table_access space gpi via) }
+    {
+        self.access = Access {
+            allowed: permits(gpi, space),
+            gpi,
+            level: 1,
+            via,
+        };
+        self.phase = Phase::Leaving;
+    }
+
+    /// The generation of the found walk was loaded.
+    fn tried(&mut self, geometry: &Geometry, pa: u64, space: Space, at: u64)
+        requires descriptor { IsSome (l1_entry self.old.walk.word) }
+        ensures { stage_of self.new ≡ after_try geometry.now pa space self.old.walk at }
+    {
+        let Walk { reach, tag, .. } = self.walk;
+        if at == tag {
+            let gpi = gpi_of(geometry, pa, &self.walk);
+            self.decide(space, gpi, Via::Hit { reach, at: tag });
+        } else {
+            self.begin_walk(Some(OldWalk { reach, tag, at }));
+        }
     }
 
     /// The generation of this size was loaded.
     fn loaded(&mut self, size: Size, value: u64)
         ensures { stage_of self.new
-            ≡ after_load size (with_generation size value self.old.generations) }
+            ≡ after_load size (with_generation size value self.old.generations) self.old.missed }
     {
         match size {
             Size::Two => {
@@ -133,55 +199,110 @@ impl Progress {
     }
 
     /// The L1 word of this address was loaded.
-    fn walked(&mut self, geometry: &Geometry, pa: u64, word: u64)
+    fn walked(&mut self, pa: u64, word: u64)
         requires descriptor { IsTrue (is_some (l1_entry word)) }
-        ensures { stage_of self.new ≡ after_word self.old.generations
-            (walk_of geometry.now pa self.old.generations word) }
+        ensures { stage_of self.new ≡ after_word self.old.generations self.old.missed
+            (walk_of pa self.old.generations word) }
     {
-        self.walk = Walk::new(geometry, pa, self.generations, word);
+        let reach = word_reach(word);
+        self.walk = Walk::around(reach, pa, word, self.generations.get(tag_size(reach)));
         self.phase = Phase::Closing;
     }
 
-    /// The generation of the word's reach was loaded again.
-    fn closed(&mut self, value: u64)
-        ensures { stage_of self.new ≡ stage.Leaving self.old.walk value }
+    /// How the access found its GPI that has made its walk, and then loaded this generation.
+    fn walk_via(&self, hi: u64) -> Via
+        ensures { result ≡ walked self.now.missed self.now.walk.reach self.now.walk.tag hi }
     {
-        self.hi = value;
-        self.phase = Phase::Leaving;
+        let Walk { reach, tag: lo, .. } = self.walk;
+        match self.missed {
+            None => Via::Cold { reach, lo, hi },
+            Some(OldWalk {
+                reach: old_reach,
+                tag,
+                at,
+            }) => Via::Missed {
+                reach: old_reach,
+                tag,
+                at,
+                then: reach,
+                lo,
+                hi,
+            },
+        }
+    }
+
+    /// The generation of the word's reach was loaded again. The walk is kept.
+    fn closed(&mut self, geometry: &Geometry, cache: &mut WalkCache, pa: u64, space: Space, hi: u64)
+        requires descriptor { IsSome (l1_entry self.old.walk.word) }
+        ensures after { stage_of self.new
+            ≡ after_at geometry.now cache.old.walks pa space (stage.Closing self.old.walk self.old.missed) hi }
+        ensures ring { cache.new
+            ≡ ring_after (stage.Closing self.old.walk self.old.missed) cache.old }
+    {
+        let gpi = gpi_of(geometry, pa, &self.walk);
+        let via = self.walk_via(hi);
+        cache.note(self.walk);
+        self.decide(space, gpi, via);
     }
 
     /// Takes note that the next act was made and answered `old`, where it isn't the last one.
-    pub fn took(&mut self, geometry: &Geometry, pa: u64, old: u64)
-        requires { IsReadable (stage_of self.old) old }
-        ensures { stage_of self.new ≡ after_at geometry.now pa (stage_of self.old) old }
+    pub fn took(
+        &mut self,
+        geometry: &Geometry,
+        cache: &mut WalkCache,
+        pa: u64,
+        space: Space,
+        old: u64,
+    )
+        requires at { IsAccessAt geometry.now pa (stage_of self.old) }
+        requires readable { IsReadable (stage_of self.old) old }
+        ensures after { stage_of self.new
+            ≡ after_at geometry.now cache.old.walks pa space (stage_of self.old) old }
+        ensures ring { cache.new ≡ ring_after (stage_of self.old) cache.old }
     {
         match self.phase {
-            Phase::Starting => self.started(),
+            Phase::Starting => self.started(cache, pa),
+            Phase::Trying => self.tried(geometry, pa, space, old),
             Phase::Loading(size) => self.loaded(size, old),
-            Phase::Walking => self.walked(geometry, pa, old),
-            Phase::Closing => self.closed(old),
+            Phase::Walking => self.walked(pa, old),
+            Phase::Closing => self.closed(geometry, cache, pa, space, old),
             Phase::Leaving => {}
         }
     }
 
     /// The next act, made on the words. Whether it is the last one.
-    pub fn turn<W: Words>(&mut self, geometry: &Geometry, cpu: u32, pa: u64, words: &mut W) -> bool
+    pub fn turn<W: Words>(
+        &mut self,
+        geometry: &Geometry,
+        cache: &mut WalkCache,
+        cpu: u32,
+        pa: u64,
+        space: Space,
+        words: &mut W,
+    ) -> bool
         requires cpu { cpu < geometry.now.cpus }
         requires inside { pa < space_bytes geometry.now.setup }
         requires next { IsSome (next_in geometry.now cpu pa self.old) }
         requires place { MayBeMade (next_in geometry.now cpu pa self.old) (W.words words.old) }
+        requires at { IsAccessAt geometry.now pa (stage_of self.old) }
         requires readable { IsReadable (stage_of self.old)
             (old_in geometry.now cpu pa self.old (W.words words.old)) }
         ensures words { W.words words.new
             ≡ words_after (next_in geometry.now cpu pa self.old) (W.words words.old) }
-        ensures after { stage_of self.new ≡ after_at geometry.now pa (stage_of self.old)
+        ensures after { stage_of self.new
+            ≡ after_at geometry.now cache.old.walks pa space (stage_of self.old)
             (old_in geometry.now cpu pa self.old (W.words words.old)) }
+        ensures ring { cache.new ≡ ring_after (stage_of self.old) cache.old }
         ensures last { result ≡ is_last (stage_of self.old) }
     {
         match self.phase {
             Phase::Starting => {
                 words.apply(on(geometry, cpu));
-                self.started();
+                self.started(cache, pa);
+            }
+            Phase::Trying => {
+                let value = words.apply(gen_load(geometry, tag_size(self.walk.reach), pa));
+                self.tried(geometry, pa, space, value);
             }
             Phase::Loading(size) => {
                 let value = words.apply(gen_load(geometry, size, pa));
@@ -190,12 +311,12 @@ impl Progress {
             Phase::Walking => {
                 if let Some(place) = geometry.l1_place(pa) {
                     let word = words.apply(Act::Load(place));
-                    self.walked(geometry, pa, word);
+                    self.walked(pa, word);
                 }
             }
             Phase::Closing => {
                 let value = words.apply(gen_load(geometry, tag_size(self.walk.reach), pa));
-                self.closed(value);
+                self.closed(geometry, cache, pa, space, value);
             }
             Phase::Leaving => {
                 words.apply(off(geometry, cpu));

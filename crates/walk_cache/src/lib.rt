@@ -13,4 +13,4 @@ mod walk;
 pub use cache::WalkCache;
 pub use gpt_descriptors::Reach;
 pub use law::rings_keep_the_last_walks;
-pub use walk::Walk;
+pub use walk::{Walk, covers_from};

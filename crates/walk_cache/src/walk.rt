@@ -1,5 +1,5 @@
 ghost use Rattle.std.specs.Prelude.{◌≡◌, true};
-ghost use Rattle.walk_cache.specs.Rings.{reach_bytes, first_around, covers};
+ghost use Rattle.walk_cache.specs.Rings.{reach_bytes, first_around, covers_from, covers};
 
 use gpt_descriptors::{Reach, Size};
 
@@ -26,6 +26,13 @@ pub fn reach_bytes(reach: Reach) -> u64
     }
 }
 
+/// Whether a byte address is one of those of this reach, from this first one on.
+pub fn covers_from(reach: Reach, first: u64, pa: u64) -> bool
+    ensures { result ≡ covers_from reach first pa }
+{
+    first <= pa && pa - first < reach_bytes(reach)
+}
+
 impl Walk {
     /// The walk around a byte address that has loaded this word, of this reach, under this
     /// generation. It covers the aligned bytes of the reach.
@@ -50,6 +57,6 @@ impl Walk {
     pub fn covers(&self, pa: u64) -> bool
         ensures { result ≡ covers self.now pa }
     {
-        self.first <= pa && pa - self.first < reach_bytes(self.reach)
+        covers_from(self.reach, self.first, pa)
     }
 }
