@@ -105,10 +105,10 @@ table_entry : (g : GeometryData) (c n pa : ℕ) (space : Space) (gpi : Gpi) (v :
     → call_entries (granule_bytes g.setup) c n (task.Look pa space) (answer.Seen a) ≡ looked_entry g c n pa space a.gpi ∷ []
 table_entry g c n pa space gpi v a is at_table = rw (is, at_table) refl
 
-decided_entry : (g : GeometryData) (p c n pa : ℕ) (space : Space) (kept : List Walk) (a : Access) (later : List Walk) (events : List CallEvent) → Decides g p c n pa space kept a later events
+decided_entry : (g : GeometryData) (p c d n pa : ℕ) (space : Space) (kept : List Walk) (a : Access) (later : List Walk) (events : List CallEvent) → Decides g p d n pa space kept a later events
     → call_entries (granule_bytes g.setup) c n (task.Look pa space) (answer.Seen a) ≡ looked_entry g c n pa space a.gpi ∷ []
-decided_entry g p c n pa space kept a later events (inl hits) = table_entry g c n pa space hits.0.gpi _ a hits.0.is refl
-decided_entry g p c n pa space kept a later events (inr walks) =
+decided_entry g p c d n pa space kept a later events (inl hits) = table_entry g c n pa space hits.0.gpi _ a hits.0.is refl
+decided_entry g p c d n pa space kept a later events (inr walks) =
     table_entry g c n pa space walks.gpi _ a walks.is (walked_quiet walks.missed walks.walk.reach walks.walk.tag walks.hi)
 
 -- the access is answered: its entry stays
@@ -162,33 +162,33 @@ closed_entry g c n pa space w m (Some gpi) v before gives = sym (append-nil (bef
 no_entry : (es : List Entry) → es ≡ es ++ []
 no_entry es = sym (append-nil es)
 
-look_entries : (c : ℕ) (q : CpuData) (pa : ℕ) (space : Space) (s : Stage) (kept : List Walk) (last : List CallEvent) (old : ℕ) → task_of q ≡ Some (task.Look pa space) → q.stage ≡ s
-    → IsPartOf q.geometry q.number c (length q.answers) pa space kept q.cache.walks s last
+look_entries : (c d : ℕ) (q : CpuData) (pa : ℕ) (space : Space) (s : Stage) (kept : List Walk) (last : List CallEvent) (old : ℕ) → task_of q ≡ Some (task.Look pa space) → q.stage ≡ s
+    → IsPartOf q.geometry q.number d (length q.answers) pa space kept q.cache.walks s last
     → own_entries c (took_at q (Some (task.Look pa space)) old)
     ≡ (answered_entries (granule_bytes q.geometry.setup) c 0 q.tasks q.answers ++ entries_at q.geometry c (length q.answers) s (Some (task.Look pa space)))
     ++ made_at q.geometry c (length q.answers) s (Some (task.Look pa space)) old
-look_entries c q pa space stage.Starting kept last old here is part = rw (is, here) (searched_entry q.geometry c (length q.answers) pa space (newest_of q.cache.walks pa) _)
-look_entries c q pa space (stage.Trying w) kept last old here is part = rw (is, here) (tried_entry q.geometry c (length q.answers) pa space w old (old == w.tag) _)
-look_entries c q pa space (stage.Loading size.Two k m) kept last old here is part = rw is (no_entry _)
-look_entries c q pa space (stage.Loading size.ThirtyTwo k m) kept last old here is part = rw is (no_entry _)
-look_entries c q pa space (stage.Loading size.FiveTwelve k m) kept last old here is part = rw is (no_entry _)
-look_entries c q pa space (stage.Walking k m) kept last old here is part = rw (is, here) (loaded_entry q.geometry c (length q.answers) pa space k m (walk_of pa k old) _)
-look_entries c q pa space (stage.Closing w m) kept last old here is part =
+look_entries c d q pa space stage.Starting kept last old here is part = rw (is, here) (searched_entry q.geometry c (length q.answers) pa space (newest_of q.cache.walks pa) _)
+look_entries c d q pa space (stage.Trying w) kept last old here is part = rw (is, here) (tried_entry q.geometry c (length q.answers) pa space w old (old == w.tag) _)
+look_entries c d q pa space (stage.Loading size.Two k m) kept last old here is part = rw is (no_entry _)
+look_entries c d q pa space (stage.Loading size.ThirtyTwo k m) kept last old here is part = rw is (no_entry _)
+look_entries c d q pa space (stage.Loading size.FiveTwelve k m) kept last old here is part = rw is (no_entry _)
+look_entries c d q pa space (stage.Walking k m) kept last old here is part = rw (is, here) (loaded_entry q.geometry c (length q.answers) pa space k m (walk_of pa k old) _)
+look_entries c d q pa space (stage.Closing w m) kept last old here is part =
     rw (is, here) (closed_entry q.geometry c (length q.answers) pa space w m (walk_gpi q.geometry pa w) (walked m w.reach w.tag old) _ refl)
-look_entries c q pa space (stage.Leaving a) kept last old here is part =
-    rw is (answered_entry c q pa space a here (decided_entry q.geometry q.number c (length q.answers) pa space kept a q.cache.walks last part))
+look_entries c d q pa space (stage.Leaving a) kept last old here is part =
+    rw is (answered_entry c q pa space a here (decided_entry q.geometry q.number c d (length q.answers) pa space kept a q.cache.walks last part))
 
-took_entries : (c : ℕ) (q : CpuData) (o : Option Task) (kept : List Walk) (last : List CallEvent) (next : Act) (old : ℕ) → task_of q ≡ o → next_at q o ≡ Some next
-    → IsPrefix q.geometry q.number c (length q.answers) kept q.cache.walks q.stage o last
+took_entries : (c d : ℕ) (q : CpuData) (o : Option Task) (kept : List Walk) (last : List CallEvent) (next : Act) (old : ℕ) → task_of q ≡ o → next_at q o ≡ Some next
+    → IsPrefix q.geometry q.number d (length q.answers) kept q.cache.walks q.stage o last
     → own_entries c (took_at q o old)
     ≡ (answered_entries (granule_bytes q.geometry.setup) c 0 q.tasks q.answers ++ entries_at q.geometry c (length q.answers) q.stage o)
     ++ made_at q.geometry c (length q.answers) q.stage o old
-took_entries c q None kept last next old here e prefix = absurd cc
-took_entries c q (Some (task.Look pa space)) kept last next old here e prefix = look_entries c q pa space q.stage kept last old here refl prefix
-took_entries c q (Some (task.Delegate pa source)) kept last next old here e prefix = absurd cc
-took_entries c q (Some (task.Undelegate pa source)) kept last next old here e prefix = absurd cc
-took_entries c q (Some task.Unknown) kept last next old here e prefix = absurd cc
+took_entries c d q None kept last next old here e prefix = absurd cc
+took_entries c d q (Some (task.Look pa space)) kept last next old here e prefix = look_entries c d q pa space q.stage kept last old here refl prefix
+took_entries c d q (Some (task.Delegate pa source)) kept last next old here e prefix = absurd cc
+took_entries c d q (Some (task.Undelegate pa source)) kept last next old here e prefix = absurd cc
+took_entries c d q (Some task.Unknown) kept last next old here e prefix = absurd cc
 
-pub step_entries : (c : ℕ) (q : CpuData) (events : List CallEvent) (next : Act) (old : ℕ) → HasWalked c q events → next_of q ≡ Some next
+pub step_entries : (c d : ℕ) (q : CpuData) (events : List CallEvent) (next : Act) (old : ℕ) → HasWalked d q events → next_of q ≡ Some next
     → own_entries c (took_of q old) ≡ own_entries c q ++ made_at q.geometry c (length q.answers) q.stage (task_of q) old
-step_entries c q events next old walked e = took_entries c q (task_of q) walked.kept walked.last next old refl e walked.under_way
+step_entries c d q events next old walked e = took_entries c d q (task_of q) walked.kept walked.last next old refl e walked.under_way

@@ -41,8 +41,8 @@ pub fn processors_follow_their_script()
 pub fn processors_make_their_entries()
     ensures start { (g : GeometryData) (p : ℕ) (tasks : List Task) (c : ℕ)
         → own_entries c (fresh g p tasks) ≡ [] }
-    ensures step { (c : ℕ) (q : CpuData) (events : List CallEvent) (next : Act) (old : ℕ)
-        → HasWalked c q events → next_of q ≡ Some next
+    ensures step { (c d : ℕ) (q : CpuData) (events : List CallEvent) (next : Act) (old : ℕ)
+        → HasWalked d q events → next_of q ≡ Some next
         → own_entries c (took_of q old) ≡ own_entries c q
         ++ made_at q.geometry c (length q.answers) q.stage (task_of q) old }
 {}
