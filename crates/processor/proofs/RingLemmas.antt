@@ -17,7 +17,6 @@ use Rattle.history.specs.declared.call.Task.{Task}
 use Rattle.history.specs.declared.call.Task.TheVariants as task
 use Rattle.history.specs.declared.call.Access.{Access}
 use Rattle.history.specs.declared.call.Answer.{Answer}
-use Rattle.history.specs.declared.call.Answer.TheVariants as answer
 use Rattle.history.specs.declared.call.OldWalk.{OldWalk}
 use Rattle.history.specs.declared.call.Via.{Via}
 use Rattle.history.specs.declared.call.Via.TheVariants as via
@@ -25,7 +24,7 @@ use Rattle.history.specs.declared.rings.Named.{Named}
 use Rattle.history.specs.Events.{CallEvent}
 use Rattle.history.specs.Rings.{named_via, named_in, IsFoundBy, RingSays, IsRinged, AreRinged}
 use Rattle.history.specs.Stamps.{walked}
-use Rattle.processor.specs.Accesses.{walk_with, block_answer}
+use Rattle.processor.specs.Accesses.{walk_with}
 use Rattle.processor.specs.Script.{Hits, Walks, IsMissed, Decides, IsLook, IsCall, AreCallEvents, Follows}
 use Rattle.processor.specs.InnerCpus.{CpuData}
 use Rattle.processor.specs.InnerScript.{HasWalked}

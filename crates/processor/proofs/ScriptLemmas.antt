@@ -1,6 +1,6 @@
 -- Processors walk their script.
 use Rattle.std.proofs.Common.{◌≡◌, ◌≢◌, ℕ, suc, ◌+◌, ◌<◌, ◌++◌, ◌∷◌, [], List, Bool, true, false, Option, Some, None, length, drop, append_assoc, append-nil, length-append, refl, sym, ap, ◌∙◌, subst, arith, inl, inr, if◌then◌else◌}
-use Rattle.std.specs.Prelude.{slice_get, IsSome, ◌==◌}
+use Rattle.std.specs.Prelude.{slice_get, ◌==◌}
 use Rattle.std.specs.Option.{option_map}
 use Rattle.std.proofs.lemmas.Bool.{eqb-true, eq-eqb}
 use Rattle.gpi_values.specs.declared.gpi.Gpi.{Gpi}
@@ -9,7 +9,6 @@ use Rattle.gpt_descriptors.specs.declared.size.Size.{Size}
 use Rattle.gpt_descriptors.specs.declared.size.Size.TheVariants as size
 use Rattle.gpt_descriptors.specs.declared.size.Generations.{Generations}
 use Rattle.gpt_descriptors.specs.Sizes.{space_bytes, tag_size_of, with_generation}
-use Rattle.gpt_descriptors.specs.Entries.{l1_entry}
 use Rattle.gpt_descriptors.specs.Places.{GeometryData, gen_place_of, l1_place_of, block_gpi_of}
 use Rattle.shared_words.specs.declared.act.Act.{Act}
 use Rattle.shared_words.specs.declared.act.Act.TheVariants as act
@@ -24,17 +23,16 @@ use Rattle.history.specs.declared.call.Answer.{Answer}
 use Rattle.history.specs.declared.call.Answer.TheVariants as answer
 use Rattle.history.specs.declared.call.OldWalk.{OldWalk}
 use Rattle.history.specs.declared.call.Via.TheVariants as via
-use Rattle.history.specs.declared.entry.Entry.{Entry}
 use Rattle.history.specs.Events.{CallEvent, plain}
 use Rattle.history.specs.Stamps.{walked}
 use Rattle.processor.specs.InnerProgress.{Stage}
 use Rattle.processor.specs.InnerProgress as stage
 use Rattle.processor.specs.Accesses.{block_answer, walk_of, walk_gpi, table_access}
-use Rattle.processor.specs.Script.{deciding_load, IsMissed, tries, loads, Decides, Looks, IsLook, IsCall, AreCallEvents}
+use Rattle.processor.specs.Script.{deciding_load, IsMissed, tries, loads, Looks, IsLook, IsCall, AreCallEvents}
 use Rattle.processor.specs.InnerProgress.{act_at, no_generations, old_walk, after_search, after_try, after_load, after_at, ring_after}
 use Rattle.processor.specs.InnerCpus.{CpuData, IsCpu, IsReadable, IsAccessAt, task_of, idle_answer, answered_first, idle_answers, fresh, next_at, next_of, took_at, took_of}
 use Rattle.processor.specs.InnerEntries.{decided_entries, made_at}
-use Rattle.processor.specs.InnerScript.{HasLoaded, HasFound, IsPartOf, IsPrefix, HasWalked, loads_before}
+use Rattle.processor.specs.InnerScript.{HasLoaded, IsPartOf, IsPrefix, HasWalked, loads_before}
 use Rattle.processor.proofs.WalkLemmas.{descriptor_walk, walk_is, walk_means}
 use Rattle.processor.proofs.CpuLemmas.{access_at, acts_at, look_at, look_unblocked, some_mapped}
 

@@ -1,5 +1,5 @@
 -- Walks around an address: those that are made, and those that are kept and found.
-use Rattle.std.proofs.Common.{◌≡◌, ℕ, ◌+◌, ◌-◌, ◌<◌, ◌≤◌, ◌++◌, ◌∷◌, [], List, Bool, true, false, Option, Some, None, length, refl, sym, ap, ◌∙◌, subst, arith, if◌then◌else◌}
+use Rattle.std.proofs.Common.{◌≡◌, ℕ, ◌-◌, ◌<◌, ◌≤◌, ◌++◌, ◌∷◌, [], List, Bool, true, false, Option, Some, None, length, refl, sym, subst, arith, if◌then◌else◌}
 use Rattle.std.specs.Prelude.{IsSome, ◌==◌}
 use Rattle.std.specs.List.{All}
 use Rattle.std.specs.Option.{option_map}
@@ -14,7 +14,7 @@ use Rattle.gpt_descriptors.specs.declared.size.Reach.TheVariants as reach
 use Rattle.gpt_descriptors.specs.declared.size.Generations.{Generations}
 use Rattle.gpt_descriptors.specs.declared.entry.L1Entry.{L1Entry}
 use Rattle.gpt_descriptors.specs.Sizes.{space_bytes, place_in_word, reach_with, tag_size_of, generation_in, with_generation}
-use Rattle.gpt_descriptors.specs.Entries.{l1_entry, word_gpi, word_reach}
+use Rattle.gpt_descriptors.specs.Entries.{l1_entry, word_reach}
 use Rattle.gpt_descriptors.specs.Places.{GeometryData}
 use Rattle.gpt_descriptors.proofs.FieldEntryLemmas.{descriptor_gpi}
 use Rattle.walk_cache.specs.declared.walk.Walk.{Walk}

@@ -86,7 +86,7 @@ impl Progress {
             access: Access {
                 allowed: false,
                 gpi: Gpi::NoAccess,
-                level: 1,
+                level: 0,
                 via: Via::Still,
             },
         }
@@ -216,11 +216,13 @@ impl Progress {
         let Walk { reach, tag: lo, .. } = self.walk;
         match self.missed {
             None => Via::Cold { reach, lo, hi },
-            Some(OldWalk {
-                reach: old_reach,
-                tag,
-                at,
-            }) => Via::Missed {
+            Some(
+                OldWalk {
+                    reach: old_reach,
+                    tag,
+                    at,
+                },
+            ) => Via::Missed {
                 reach: old_reach,
                 tag,
                 at,
