@@ -1,10 +1,10 @@
 -- The acts of a processor: the stores of its duty word, the loads of generations, and the load of the L1 word.
-use Rattle.std.proofs.Common.{◌≡◌, ℕ, zero, suc, ◌+◌, ◌*◌, ◌/◌, ◌<◌, ◌≤◌, ◌⊎◌, ◌++◌, ◌∷◌, [], List, map, true, false, Option, Some, None, length, drop, set, refl, sym, ap, ◌∙◌, subst, arith, inl, inr, append-nil}
-use Rattle.std.specs.Prelude.{slice_get, slice_index, is_some}
+use Rattle.std.proofs.Common.{◌≡◌, ◌≢◌, ℕ, zero, suc, ◌+◌, ◌*◌, ◌/◌, ◌<◌, ◌≤◌, ◌⊎◌, ◌++◌, ◌∷◌, [], List, map, true, false, eqb, Option, Some, None, length, drop, set, refl, sym, ap, ◌∙◌, subst, arith, inl, inr, append-nil}
+use Rattle.std.specs.Prelude.{slice_get, slice_index, is_some, MatchOption}
 use Rattle.std.specs.List.{count_by}
 use Rattle.std.specs.Option.{option_map}
 use Rattle.std.proofs.lemmas.List.{set-get_or, get_or-set_same}
-use Rattle.core_machine.proofs.Names.{Gpi, granule_bytes, canonical_word, word_gpi, GeometryData, WordName, Duty, place_of, l0_words, l1_index, l1_place_of, apart_by, Task, Answer, Entry, Act, place_in, after_act, answer_of, Generations, HoldsIn, Scene, map_in, scene_after, CpuData, IsCpu, IsMade, Size, holder_by, holds, is_due, IsCounted, blocks_in_region, count_of, gen_place_of, lock_number}
+use Rattle.core_machine.proofs.Names.{Gpi, granule_bytes, canonical_word, word_gpi, GeometryData, WordName, Duty, place_of, l0_words, l1_index, l1_place_of, apart_by, Task, Answer, Entry, Act, place_in, after_act, answer_of, Generations, HoldsIn, Scene, map_in, scene_after, CpuData, IsCpu, IsMade, Size, holder_by, holds, is_due, IsCounted, blocks_in_region, count_of, gen_place_of, lock_number, generation_word, open_by, state_in, Caller, is_due_at}
 use Rattle.core_machine.proofs.Names.size
 use Rattle.core_machine.proofs.Names.task
 use Rattle.core_machine.proofs.Names.answer
@@ -19,48 +19,60 @@ use Rattle.invalidate.specs.Duty.{on_act, off_act}
 use Rattle.invalidate.specs.Generations.{gen_load_of}
 use Rattle.history.specs.Legality.{is_seen}
 use Rattle.history.specs.Events.{CallEvent}
-use Rattle.processor.specs.declared.walk.Walk.{Walk}
-use Rattle.processor.specs.Accesses.{walk_with, walk_answer, looked_entry}
-use Rattle.processor.specs.InnerProgress.{Stage, act_at, after_word, no_generations}
+use Rattle.walk_cache.specs.declared.walk.Walk.{Walk}
+use Rattle.walk_cache.specs.Rings.{RingData, first_around, covers, covers_from, newest_of}
+use Rattle.walk_cache.proofs.RingLemmas.{if_found}
+use Rattle.processor.specs.Accesses.{walk_with, walk_of, walk_gpi, table_access, looked_entry}
+use Rattle.processor.specs.InnerProgress.{Stage, act_at, after_search, old_walk, ring_after, no_generations}
 use Rattle.processor.specs.InnerProgress as stage
-use Rattle.processor.specs.InnerCpus.{IsReadable, after_answer, idle_answers, task_of, goes_to, next_at, next_of, took_at, took_of}
-use Rattle.processor.specs.InnerEntries.{made_at, own_entries, walk_entries}
+use Rattle.processor.specs.InnerCpus.{IsAt, IsAccessAt, IsReadable, after_answer, idle_answers, task_of, goes_to, next_at, next_of, took_at, took_of}
+use Rattle.processor.specs.InnerEntries.{made_at, own_entries}
 use Rattle.processor.specs.Script.{IsCall, IsLook, AreCallEvents}
 use Rattle.processor.proofs.CpuLemmas.{access_at, some_mapped, took_is_cpu, took_keeps}
 use Rattle.processor.proofs.EntryLemmas.{step_entries}
 use Rattle.processor.proofs.ScriptLemmas.{step_walks}
+use Rattle.processor.proofs.WalkLemmas.{walk_is, descriptor_walk}
 use Rattle.gpt_descriptors.proofs.PlaceLemmas.{generation_named}
 use Rattle.history.specs.Counts.{count_around}
-use Rattle.history.specs.Stamps.{AreStamped, IsStampedCall}
+use Rattle.history.specs.Stamps.{AreStamped, IsStampedCall, Gave, SawBetween, WasOld, walked}
+use Rattle.history.specs.Legality.{StateAllows}
+use Rattle.history.specs.declared.call.Access.{Access}
+use Rattle.history.specs.declared.call.OldWalk.{OldWalk}
+use Rattle.history.specs.declared.call.Via.TheVariants as via
 use Rattle.core_machine.specs.InnerAgentCaller.{comes_before}
-use Rattle.core_machine.specs.InnerCpuCaller.{DecidedBy, IsLoaded, cpu_loads, cpu_stamps, duty_at, loads_at, loads_by, stamps_at, stamps_by, walk_access}
-use Rattle.history.proofs.StampLemmas.{decided_now, walk_stamped}
+use Rattle.core_machine.specs.InnerCpuCaller.{DecidedBy, IsLoaded, IsOld, cpu_loads, cpu_stamps, cpu_walks, duty_at, loads_at, loads_by, stamps_at, stamps_by, walk_at}
+use Rattle.core_machine.specs.InnerCallers.{unraised_by}
+use Rattle.core_machine.specs.InnerWalks.{In, GivesNow, WalkHolds, generation_around, walk_generation, walk_size}
+use Rattle.history.proofs.StampLemmas.{decided_now, hit_stamped, saw_now, walk_stamped}
+use Rattle.core_machine.proofs.CoverLemmas.{home_at, walk_gives}
 use Rattle.core_machine.proofs.ListLemmas.{get_append, one, some_or_none}
+use Rattle.std.proofs.lemmas.Bool.{cases_Bool, eqb-true, eq-eqb}
 use Rattle.core_machine.proofs.StampLemmas.{idle_unstamped, own_stamps_grow, region_around, starting_loads, starting_stamps}
 use Rattle.core_machine.proofs.AddressLemmas.{index_at, word_by_granule, word_readable}
 use Rattle.core_machine.proofs.CallerLemmas.{due_alone, made_at_place, placed_at}
 use Rattle.core_machine.proofs.ActLemmas.{canonical_gives, map_gives}
-use Rattle.core_machine.proofs.WalkLemmas.{tracks_same}
+use Rattle.core_machine.proofs.WalkLemmas.{in_back, in_front, in_if, in_parts, open_held, tracks_same}
 use Rattle.core_machine.proofs.StepLemmas.{aside_keeps, rises_left, step_keeps, tables_whole}
 use Rattle.core_machine.proofs.WordLemmas.{Writes, is_generation, is_level1, is_line, is_lock, locks_left, writes_none, writes_one}
 
 -- ---- answers
 
-look_seen : (g : GeometryData) (p c n pa : ℕ) (space : Space) (o : Option Gpi) (given : Answer) (events : List CallEvent) → IsLook g p c n pa space o given events → is_seen given ≡ true
-look_seen g p c n pa space (Some gpi) given events look = subst (λ (x : Answer). is_seen x ≡ true) (sym look.0) refl
-look_seen g p c n pa space None given events look = subst (λ (x : Answer). is_seen x ≡ true) (sym look.is) refl
+look_seen : (g : GeometryData) (p c n pa : ℕ) (space : Space) (o : Option Gpi) (kept : List Walk) (given : Answer) (later : List Walk) (events : List CallEvent) → IsLook g p c n pa space o kept given later events → is_seen given ≡ true
+look_seen g p c n pa space (Some gpi) kept given later events look = subst (λ (x : Answer). is_seen x ≡ true) (sym look.0) refl
+look_seen g p c n pa space None kept given later events look = subst (λ (x : Answer). is_seen x ≡ true) (sym look.is) refl
 
-call_seen : (g : GeometryData) (p c n : ℕ) (t : Task) (given : Answer) (events : List CallEvent) → IsCall g p c n t given events → is_seen given ≡ true
-call_seen g p c n (task.Look pa space) given events call = look_seen g p c n pa space _ given events call
-call_seen g p c n t given events call = absurd call
+call_seen : (g : GeometryData) (p c n : ℕ) (t : Task) (kept : List Walk) (given : Answer) (later : List Walk) (events : List CallEvent) → IsCall g p c n t kept given later events → is_seen given ≡ true
+call_seen g p c n (task.Look pa space) kept given later events call = look_seen g p c n pa space _ kept given later events call
+call_seen g p c n t kept given later events call = absurd call
 
 -- each answer of a processor is what an access has seen
-pub answers_seen : (g : GeometryData) (p c n k : ℕ) (tasks : List Task) (answers : List Answer) (events : List CallEvent) (given : Answer) → AreCallEvents g p c n tasks answers events → slice_get answers k ≡ Some given
-    → is_seen given ≡ true
-answers_seen g p c n k tasks [] events given are there = absurd cc
-answers_seen g p c n k [] (a ∷ answers) events given are there = absurd are
-answers_seen g p c n zero (t ∷ tasks) (a ∷ answers) events given are there = let same : a ≡ given = cc in subst (λ (x : Answer). is_seen x ≡ true) same (call_seen g p c n t a are.0 are.3)
-answers_seen g p c n (suc k) (t ∷ tasks) (a ∷ answers) events given are there = answers_seen g p c (n + 1) k tasks answers are.1 given are.4 there
+pub answers_seen : (g : GeometryData) (p c n k : ℕ) (tasks : List Task) (kept : List Walk) (answers : List Answer) (later : List Walk) (events : List CallEvent) (given : Answer) → AreCallEvents g p c n tasks kept answers later events
+    → slice_get answers k ≡ Some given → is_seen given ≡ true
+answers_seen g p c n k tasks kept [] later events given are there = absurd cc
+answers_seen g p c n k [] kept (a ∷ answers) later events given are there = absurd are
+answers_seen g p c n zero (t ∷ tasks) kept (a ∷ answers) later events given are there =
+    let same : a ≡ given = cc in subst (λ (x : Answer). is_seen x ≡ true) same (call_seen g p c n t kept a are.2 are.0 are.4)
+answers_seen g p c n (suc k) (t ∷ tasks) kept (a ∷ answers) later events given are there = answers_seen g p c (n + 1) k tasks are.2 answers later are.1 given are.5 there
 
 -- such an answer counts nothing
 seen_counted : (g : GeometryData) (c k : ℕ) (t : Task) (given : Answer) (h : List Entry) → is_seen given ≡ true → IsCounted g c k t given h
@@ -69,7 +81,7 @@ seen_counted g c k t (answer.Worn z value) h seen = absurd cc
 seen_counted g c k t given h seen = tt
 
 pub cpu_counted : (g : GeometryData) (c k : ℕ) (t : Task) (q : CpuData) (given : Answer) (h : List Entry) → IsMade g (caller.Cpu q) → slice_get q.answers k ≡ Some given → IsCounted g c k t given h
-cpu_counted g c k t q given h made there = seen_counted g c k t given h (answers_seen q.geometry q.number made.2 0 k q.tasks q.answers made.4.calls given made.4.answered there)
+cpu_counted g c k t q given h made there = seen_counted g c k t given h (answers_seen q.geometry q.number made.2 0 k q.tasks [] q.answers made.4.kept made.4.calls given made.4.answered there)
 
 -- ---- changes that aren't complete
 
@@ -88,21 +100,26 @@ single g s y region stands =
 
 -- ---- the processor that acts
 
+-- a processor whose access has come so far
+abbrev pub cpu_at : CpuData → Stage → CpuData
+cpu_at q st = goes_to q q.cache st
+
 -- caller c is a processor at a stage of an access, and all facts hold
 pub record Accessing (s : Scene) (c : ℕ) (q : CpuData) (pa : ℕ) (space : Space) (st : Stage) : Type 0 where
   pub stands : HoldsIn q.geometry s
-  pub at : slice_get s.callers c ≡ Some (caller.Cpu (goes_to q st))
+  pub at : slice_get s.callers c ≡ Some (caller.Cpu (cpu_at q st))
   pub is : IsCpu q
+  pub staged : IsAccessAt q.geometry pa st
   pub under_way : task_of q ≡ Some (task.Look pa space)
   pub inside : pa < space_bytes q.geometry.setup
-  pub made : (old : ℕ) → IsReadable st old → IsMade q.geometry (caller.Cpu (took_at (goes_to q st) (Some (task.Look pa space)) old))
-  pub own : (old : ℕ) → own_entries c (took_at (goes_to q st) (Some (task.Look pa space)) old) ≡ own_entries c (goes_to q st) ++ made_at q.geometry c (length q.answers) st (Some (task.Look pa space)) old
+  pub made : (old : ℕ) → IsReadable st old → IsMade q.geometry (caller.Cpu (took_at (cpu_at q st) (Some (task.Look pa space)) old))
+  pub own : (old : ℕ) → own_entries c (took_at (cpu_at q st) (Some (task.Look pa space)) old) ≡ own_entries c (cpu_at q st) ++ made_at q.geometry c (length q.answers) st (Some (task.Look pa space)) old
 
 -- what an act keeps that is made at a stage
 abbrev pub AccessKeeps : Scene → ℕ → CpuData → ℕ → Space → Stage → Act → Type 0
 AccessKeeps s c q pa space st next =
     IsReadable st (answer_of next s.words)
-    × HoldsIn q.geometry (scene_after s c (caller.Cpu (took_at (goes_to q st) (Some (task.Look pa space)) (answer_of next s.words))) (after_act next s.words)
+    × HoldsIn q.geometry (scene_after s c (caller.Cpu (took_at (cpu_at q st) (Some (task.Look pa space)) (answer_of next s.words))) (after_act next s.words)
     (made_at q.geometry c (length q.answers) st (Some (task.Look pa space)) (answer_of next s.words)))
 
 module _ {s : Scene} {c : ℕ} {q : CpuData} {pa : ℕ} {space : Space} {st : Stage} (acting : Accessing s c q pa space st) where
@@ -111,24 +128,27 @@ module _ {s : Scene} {c : ℕ} {q : CpuData} {pa : ℕ} {space : Space} {st : St
   duty_below = subst (λ (n : ℕ). place_of q.geometry (Duty q.number) < n) (sym acting.stands.shape.size) (place_below q.geometry (Duty q.number) acting.is.number)
 
   pub duty_is : slice_index s.words (place_of q.geometry (Duty q.number)) ≡ duty_at st
-  duty_is = acting.stands.duties c q.number (caller.Cpu (goes_to q st)) acting.at refl
+  duty_is = acting.stands.duties c q.number (caller.Cpu (cpu_at q st)) acting.at refl
 
-  -- what it has loaded, and its stamps
+  -- what it has loaded, its stamps, and its walks
   loads_are : loads_at q.geometry s.words pa st
-  loads_are = subst (loads_by q.geometry s.words st) acting.under_way (acting.stands.loads c (caller.Cpu (goes_to q st)) acting.at)
+  loads_are = subst (loads_by q.geometry s.words st) acting.under_way (acting.stands.loads c (caller.Cpu (cpu_at q st)) acting.at)
 
   stamps_are : AreStamped s.first q.geometry.setup.first (granule_bytes q.geometry.setup) c q.tasks q.answers s.history
-  stamps_are = (acting.stands.stamps c (caller.Cpu (goes_to q st)) acting.at).0
+  stamps_are = (acting.stands.stamps c (caller.Cpu (cpu_at q st)) acting.at).0
 
   decided_is : stamps_at q.geometry s.first c (length q.answers) pa space st s.history
-  decided_is = subst (λ (o : Option Task). stamps_by q.geometry s.first c (length q.answers) st o s.history) acting.under_way (acting.stands.stamps c (caller.Cpu (goes_to q st)) acting.at).1
+  decided_is = subst (λ (o : Option Task). stamps_by q.geometry s.first c (length q.answers) st o s.history) acting.under_way (acting.stands.stamps c (caller.Cpu (cpu_at q st)) acting.at).1
 
-  loads_of : (next : Stage) (after : List ℕ) → loads_at q.geometry after pa next → cpu_loads after (goes_to q next)
-  loads_of next after loads = subst (loads_by q.geometry after next) (sym acting.under_way) loads
+  loads_of : (r : RingData) (next : Stage) (after : List ℕ) → loads_at q.geometry after pa next → cpu_loads after (goes_to q r next)
+  loads_of r next after loads = subst (loads_by q.geometry after next) (sym acting.under_way) loads
 
-  stamps_of : (next : Stage) (h : List Entry) → AreStamped s.first q.geometry.setup.first (granule_bytes q.geometry.setup) c q.tasks q.answers h
-      → stamps_at q.geometry s.first c (length q.answers) pa space next h → cpu_stamps s.first h c (goes_to q next)
-  stamps_of next h answered stamps = (answered, subst (λ (o : Option Task). stamps_by q.geometry s.first c (length q.answers) next o h) (sym acting.under_way) stamps)
+  stamps_of : (r : RingData) (next : Stage) (h : List Entry) → AreStamped s.first q.geometry.setup.first (granule_bytes q.geometry.setup) c q.tasks q.answers h
+      → stamps_at q.geometry s.first c (length q.answers) pa space next h → cpu_stamps s.first h c (goes_to q r next)
+  stamps_of r next h answered stamps = (answered, subst (λ (o : Option Task). stamps_by q.geometry s.first c (length q.answers) next o h) (sym acting.under_way) stamps)
+
+  walks_are : (w : Walk) → In w (q.cache.walks ++ walk_at st) → WalkHolds q.geometry s.words (map_in s) s.callers w
+  walks_are = acting.stands.walks c (caller.Cpu (cpu_at q st)) acting.at
 
   -- a generation around it: as loaded now, and against the count of the history
   region_within : (y : Size) → pa / size_bytes y < blocks_in_region y * q.geometry.setup.gigabytes
@@ -146,11 +166,15 @@ module _ {s : Scene} {c : ℕ} {q : CpuData} {pa : ℕ} {space : Space} {st : St
       let few = single g s y (pa / size_bytes y) acting.stands in
       (omega (arith, sum, region), omega (arith, sum, region, few))
 
+  -- the map's GPI of its granule
+  map_here : slice_get (state_in s).map (granule_number q.geometry.setup pa) ≡ Some (map_in s (granule_number q.geometry.setup pa))
+  map_here = map_gives q.geometry s pa acting.stands acting.inside
+
   -- it becomes x without an entry
   quiet_keeps : (x : CpuData) (n : Option WordName) (after : List ℕ) → IsMade q.geometry (caller.Cpu x) → Writes q.geometry s.words n after → is_level1 n ≡ false → is_generation n ≡ false → is_lock n ≡ false → is_line n ≡ false
-      → ((p : ℕ) → n ≡ Some (Duty p) → q.number ≡ p) → x.number ≡ q.number → slice_index after (place_of q.geometry (Duty q.number)) ≡ duty_at x.stage → own_entries c x ≡ own_entries c (goes_to q st)
-      → cpu_loads after x → cpu_stamps s.first s.history c x → HoldsIn q.geometry (scene_after s c (caller.Cpu x) after [])
-  quiet_keeps x n after made writes no_level1 no_generation no_lock no_line mine number on own loads stamps =
+      → ((p : ℕ) → n ≡ Some (Duty p) → q.number ≡ p) → x.number ≡ q.number → slice_index after (place_of q.geometry (Duty q.number)) ≡ duty_at x.stage → own_entries c x ≡ own_entries c (cpu_at q st)
+      → cpu_loads after x → cpu_stamps s.first s.history c x → ((w : Walk) → In w (cpu_walks x) → In w (q.cache.walks ++ walk_at st)) → HoldsIn q.geometry (scene_after s c (caller.Cpu x) after [])
+  quiet_keeps x n after made writes no_level1 no_generation no_lock no_line mine number on own loads stamps walks =
       aside_keeps {n = n} (record {
         stands = acting.stands;
         at = acting.at;
@@ -167,7 +191,7 @@ module _ {s : Scene} {c : ℕ} {q : CpuData} {pa : ℕ} {space : Space} {st : St
         loads = loads;
         stamps = stamps;
         unraised = λ y. refl;
-        walks = λ w has. has;
+        walks = walks;
         before = refl;
         whole = refl;
         opened = refl;
@@ -180,94 +204,54 @@ module _ {s : Scene} {c : ℕ} {q : CpuData} {pa : ℕ} {space : Space} {st : St
       })
 
   -- it loads a word
-  load_quiet : (next : Stage) → IsMade q.geometry (caller.Cpu (goes_to q next)) → duty_at st ≡ duty_at next → own_entries c (goes_to q next) ≡ own_entries c (goes_to q st)
-      → loads_at q.geometry s.words pa next → stamps_at q.geometry s.first c (length q.answers) pa space next s.history → HoldsIn q.geometry (scene_after s c (caller.Cpu (goes_to q next)) s.words [])
-  load_quiet next made on own loads stamps =
-      quiet_keeps (goes_to q next) None s.words made (writes_none q.geometry s.words) refl refl refl refl (λ p same. absurd cc) refl (duty_is ∙ on) own (loads_of next s.words loads) (stamps_of next s.history stamps_are stamps)
+  load_quiet : (r : RingData) (next : Stage) → IsMade q.geometry (caller.Cpu (goes_to q r next)) → duty_at st ≡ duty_at next → own_entries c (goes_to q r next) ≡ own_entries c (cpu_at q st)
+      → loads_at q.geometry s.words pa next → stamps_at q.geometry s.first c (length q.answers) pa space next s.history → ((w : Walk) → In w (r.walks ++ walk_at next) → In w (q.cache.walks ++ walk_at st))
+      → HoldsIn q.geometry (scene_after s c (caller.Cpu (goes_to q r next)) s.words [])
+  load_quiet r next made on own loads stamps walks =
+      quiet_keeps (goes_to q r next) None s.words made (writes_none q.geometry s.words) refl refl refl refl (λ p same. absurd cc) refl (duty_is ∙ on) own (loads_of r next s.words loads) (stamps_of r next s.history stamps_are stamps) walks
 
   -- it stores its duty word
-  store_quiet : (x : CpuData) (v : ℕ) → IsMade q.geometry (caller.Cpu x) → x.number ≡ q.number → v ≡ duty_at x.stage → own_entries c x ≡ own_entries c (goes_to q st)
-      → cpu_loads (set s.words (place_of q.geometry (Duty q.number)) v) x → cpu_stamps s.first s.history c x
+  store_quiet : (x : CpuData) (v : ℕ) → IsMade q.geometry (caller.Cpu x) → x.number ≡ q.number → v ≡ duty_at x.stage → own_entries c x ≡ own_entries c (cpu_at q st)
+      → cpu_loads (set s.words (place_of q.geometry (Duty q.number)) v) x → cpu_stamps s.first s.history c x → ((w : Walk) → In w (cpu_walks x) → In w (q.cache.walks ++ walk_at st))
       → HoldsIn q.geometry (scene_after s c (caller.Cpu x) (set s.words (place_of q.geometry (Duty q.number)) v) [])
-  store_quiet x v made number on own loads stamps =
+  store_quiet x v made number on own loads stamps walks =
       quiet_keeps x (Some (Duty q.number)) (set s.words (place_of q.geometry (Duty q.number)) v) made (writes_one q.geometry s.words (Duty q.number) v acting.is.number) refl refl refl refl (λ p same. cc) number
-      (get_or-set_same s.words (place_of q.geometry (Duty q.number)) v 0 duty_below ∙ on) own loads stamps
+      (get_or-set_same s.words (place_of q.geometry (Duty q.number)) v 0 duty_below ∙ on) own loads stamps walks
 
--- ---- the load of the L1 word
-
-mapped_there : {X Y : Type 0} (f : X → Y) (o : Option X) → is_some o ≡ true → is_some (option_map f o) ≡ true
-mapped_there f None is = absurd cc
-mapped_there f (Some x) is = refl
-
-reach_there : (word : ℕ) → is_some (l1_entry word) ≡ true → is_some (word_reach word) ≡ true
-reach_there word is = mapped_there _ (l1_entry word) is
-
-walk_found : (k : Generations) (o : Option Reach) (v : Option Gpi) (m : Gpi) → is_some o ≡ true → v ≡ Some m → (w : Walk) × (walk_with k o v ≡ Some w) × (w.gpi ≡ m) × (w.lo ≡ generation_in (tag_size_of w.reach) k)
-walk_found k None v m reaches means = absurd cc
-walk_found k (Some reach) None m reaches means = absurd cc
-walk_found k (Some reach) (Some gpi) m reaches means = (_, refl, cc, refl)
-
--- it decides the access: by the map's GPI of its granule
-pub walk_keeps : {s : Scene} {c : ℕ} {q : CpuData} {pa : ℕ} {space : Space} (k : Generations) (place : ℕ) → Accessing s c q pa space (stage.Walking k) → l1_place_of q.geometry pa ≡ Some place
-    → AccessKeeps s c q pa space (stage.Walking k) (act.Load place)
-walk_keeps {s = s} {c = c} {q = q} {pa = pa} {space = space} k place acting there =
-    let g = q.geometry in
-    let granule : ℕ = granule_number g.setup pa in
-    let word : ℕ = slice_index s.words place in
-    let at = index_at g pa place there in
-    let index : l1_index g.setup (l0_words g) (granule / 16) ≡ Some at.0 = ap (l1_index g.setup (l0_words g)) (sym (word_by_granule g.setup pa)) ∙ at.1 in
-    let apart : Option ℕ = apart_by g.setup (map holder_by s.callers) (granule / 16) in
-    let is : word ≡ canonical_word g.setup (map_in s) apart (granule / 16) = ap (slice_index s.words) at.2 ∙ acting.stands.tables.level1 (granule / 16) at.0 index in
-    let gives = canonical_gives g.setup (map_in s) apart granule word is in
-    let readable : is_some (l1_entry word) ≡ true = word_readable word (place_in_word g.setup pa) (map_in s granule) gives in
-    let found = walk_found k (word_reach word) (word_gpi word (place_in_word g.setup pa)) (map_in s granule) (reach_there word readable) gives in
-    let e : Entry = looked_entry g c (length q.answers) pa space found.0.gpi in
-    let made = subst (λ (o : Option Walk). IsMade g (caller.Cpu (goes_to q (after_word k o)))) found.1 (acting.made word readable) in
-    let own = subst (λ (o : Option Walk). own_entries c (goes_to q (after_word k o)) ≡ own_entries c (goes_to q (stage.Walking k)) ++ walk_entries g c (length q.answers) pa space o) found.1 (acting.own word) in
-    let y : Size = tag_size_of found.0.reach in
-    let loaded : IsLoaded g s.words pa y found.0.lo = subst (IsLoaded g s.words pa y) (sym found.3) (loads_are acting y) in
-    let here = map_gives g s pa acting.stands acting.inside ∙ ap Some (sym found.2) in
-    let decided : DecidedBy g s.first c (length q.answers) pa space found.0 (s.history ++ e ∷ []) =
-    decided_now s.first g.setup.first (granule_bytes g.setup) c (length q.answers) _ space found.0.gpi _ None found.0.reach found.0.lo s.history _ refl here loaded.0 (omega (arith, loaded.1, (counted_now acting y).0)) tt in
-    let answered = (own_stamps_grow s.first s.history (e ∷ []) c (caller.Cpu (goes_to q (stage.Walking k))) (acting.stands.stamps c (caller.Cpu (goes_to q (stage.Walking k))) acting.at)).0 in
-    let writes = writes_none g s.words in (
-      readable,
-      rw (set-get_or s.words place 0)
-          (subst (λ (o : Option Walk). HoldsIn g (scene_after s c (caller.Cpu (goes_to q (after_word k o))) s.words (walk_entries g c (length q.answers) pa space o))) (sym found.1)
-          (step_keeps {n = None} {o = Some e} (record {
-            stands = acting.stands;
-            at = acting.at;
-            made = made;
-            writes = writes;
-            apart = λ m free. tt;
-            duty = record { line = refl; number = refl; own = λ p same. absurd cc; word = λ p same. acting.stands.duties c p (caller.Cpu (goes_to q (stage.Walking k))) acting.at same };
-            rises = rises_left writes refl;
-            loads = loads_of acting (stage.Closing found.0) s.words loaded;
-            stamps = stamps_of acting (stage.Closing found.0) (s.history ++ e ∷ []) answered decided;
-            tracks = tracks_same g s _ _ _ _ _ (λ n. refl) (λ y. refl) (λ y n v has. absurd has);
-            walks = λ w has. absurd has;
-            entry = record { caller = refl; call = refl; goes_on = refl; block = λ m on. absurd cc; allowed = inl here };
-            tables = tables_whole c (caller.Cpu (goes_to q (stage.Closing found.0))) acting.stands acting.at writes refl refl refl;
-            opened = refl;
-            locks = λ m low. refl;
-            seen = tt;
-            raised = λ y region within. omega arith;
-            alone = λ m has. absurd cc;
-            counted = λ j u given asked answered. cpu_counted g c j u (goes_to q (stage.Closing found.0)) given (s.history ++ e ∷ []) made answered;
-            own = own;
-          }))),
-    )
-
--- ---- any act
-
--- a load of a generation, after which the processor is still on
-generation_keeps : {s : Scene} {c : ℕ} {q : CpuData} {pa : ℕ} {space : Space} {st : Stage} (acting : Accessing s c q pa space st) (place : ℕ) (next : Stage) → IsReadable st (slice_index s.words place)
-    → took_at (goes_to q st) (Some (task.Look pa space)) (slice_index s.words place) ≡ goes_to q next → made_at q.geometry c (length q.answers) st (Some (task.Look pa space)) (slice_index s.words place) ≡ [] → duty_at st ≡ duty_at next
-    → loads_at q.geometry s.words pa next → stamps_at q.geometry s.first c (length q.answers) pa space next s.history → AccessKeeps s c q pa space st (act.Load place)
-generation_keeps {s = s} {c = c} {q = q} {pa = pa} {space = space} {st = st} acting place next readable took none on loads stamps =
-    let made = subst (λ (x : CpuData). IsMade q.geometry (caller.Cpu x)) took (acting.made (slice_index s.words place) readable) in
-    let own = ap (own_entries c) (sym took) ∙ acting.own (slice_index s.words place) ∙ ap (λ (es : List Entry). own_entries c (goes_to q st) ++ es) none ∙ append-nil _ in
-    (readable, rw (set-get_or s.words place 0, took, none) (load_quiet acting next made on own loads stamps))
+  -- a load decides the access by this GPI
+  decides : (next : Stage) (gpi : Gpi) → IsMade q.geometry (caller.Cpu (cpu_at q next)) → duty_at st ≡ duty_at next
+      → own_entries c (cpu_at q next) ≡ own_entries c (cpu_at q st) ++ looked_entry q.geometry c (length q.answers) pa space gpi ∷ []
+      → StateAllows (state_in s) (looked_entry q.geometry c (length q.answers) pa space gpi) → loads_at q.geometry s.words pa next
+      → stamps_at q.geometry s.first c (length q.answers) pa space next (s.history ++ looked_entry q.geometry c (length q.answers) pa space gpi ∷ [])
+      → ((w : Walk) → In w (q.cache.walks ++ walk_at next) → In w (q.cache.walks ++ walk_at st) ⊎ WalkHolds q.geometry s.words (map_in s) (set s.callers c (caller.Cpu (cpu_at q next))) w)
+      → HoldsIn q.geometry (scene_after s c (caller.Cpu (cpu_at q next)) s.words (looked_entry q.geometry c (length q.answers) pa space gpi ∷ []))
+  decides next gpi made on own allowed loads stamps walks =
+      let g = q.geometry in
+      let e : Entry = looked_entry g c (length q.answers) pa space gpi in
+      let writes = writes_none g s.words in
+      let answered = (own_stamps_grow s.first s.history (e ∷ []) c (caller.Cpu (cpu_at q st)) (acting.stands.stamps c (caller.Cpu (cpu_at q st)) acting.at)).0 in
+      step_keeps {n = None} {o = Some e} (record {
+        stands = acting.stands;
+        at = acting.at;
+        made = made;
+        writes = writes;
+        apart = λ m free. tt;
+        duty = record { line = refl; number = refl; own = λ p same. absurd cc; word = λ p same. acting.stands.duties c p (caller.Cpu (cpu_at q st)) acting.at same ∙ on };
+        rises = rises_left writes refl;
+        loads = loads_of q.cache next s.words loads;
+        stamps = stamps_of q.cache next (s.history ++ e ∷ []) answered stamps;
+        tracks = tracks_same g s _ _ _ _ _ (λ n. refl) (λ y. refl) (λ y n v has. absurd has);
+        walks = walks;
+        entry = record { caller = refl; call = refl; goes_on = refl; block = λ m on. absurd cc; allowed = allowed };
+        tables = tables_whole c (caller.Cpu (cpu_at q next)) acting.stands acting.at writes refl refl refl;
+        opened = refl;
+        locks = λ m low. refl;
+        seen = tt;
+        raised = λ y region within. omega arith;
+        alone = λ m has. absurd cc;
+        counted = λ j u given asked answered. cpu_counted g c j u (cpu_at q next) given (s.history ++ e ∷ []) made answered;
+        own = own;
+      })
 
 -- before the first load nothing is loaded
 none_before : (y : Size) → comes_before y size.Two ≡ true → ⊥
@@ -275,23 +259,268 @@ none_before size.Two before = absurd cc
 none_before size.ThirtyTwo before = absurd cc
 none_before size.FiveTwelve before = absurd cc
 
+lt_of : (m n : ℕ) → m ≤ n → m ≢ n → m < n
+lt_of m n low apart = omega (arith, low, apart)
+
+in_drop : {A : Type 0} (x : A) (n : ℕ) (xs : List A) → In x (drop n xs) → In x xs
+in_drop x zero xs has = has
+in_drop x (suc n) [] has = absurd has
+in_drop x (suc n) (y ∷ xs) has = inr (in_drop x n xs has)
+
+-- the parts of a walk that is made
+walk_parts : (pa : ℕ) (k : Generations) (word : ℕ) (o : Option Reach) (w : Walk) → word_reach word ≡ o → walk_with o pa k word ≡ Some w
+    → (word_reach word ≡ Some w.reach) × (w.first ≡ first_around w.reach pa) × (w.word ≡ word) × (w.tag ≡ generation_in (tag_size_of w.reach) k)
+walk_parts pa k word None w reaches made = absurd cc
+walk_parts pa k word (Some r) w reaches made =
+    let same : record { reach = r; first = first_around r pa; word = word; tag = generation_in (tag_size_of r) k } ≡ w = cc in
+    subst (λ (u : Walk). (word_reach word ≡ Some u.reach) × (u.first ≡ first_around u.reach pa) × (u.word ≡ word) × (u.tag ≡ generation_in (tag_size_of u.reach) k)) same (reaches, refl, refl, refl)
+
+-- ---- the first act: the duty word is set, and the ring is searched
+
+-- the walk that is found is one of the ring
+search_walks : (kept : List Walk) (pa : ℕ) (o : Option Walk) (w : Walk) → newest_of kept pa ≡ o → In w (kept ++ walk_at (after_search o)) → In w (kept ++ [])
+search_walks kept pa None w newest has = has
+search_walks kept pa (Some found) w newest has =
+    elim (in_parts w kept (found ∷ []) has) [
+      | inl old ↦ in_front w kept [] old
+      | inr new ↦
+          (let last = if_found kept pa (Some found) (sym newest) in
+          in_front w kept [] (subst (In w) (sym last.parts) (in_back w last.earlier (found ∷ last.later) (elim new [ inl is ↦ inl is | inr none ↦ absurd none ]))))
+    ]
+
+search_loads : (g : GeometryData) (words : List ℕ) (pa : ℕ) (o : Option Walk) → loads_at g words pa (after_search o)
+search_loads g words pa None = (tt, λ y before. absurd (none_before y before))
+search_loads g words pa (Some w) = tt
+
+search_stamps : (g : GeometryData) (map : List Gpi) (c k pa : ℕ) (space : Space) (o : Option Walk) (h : List Entry) → stamps_at g map c k pa space (after_search o) h
+search_stamps g map c k pa space None h = tt
+search_stamps g map c k pa space (Some w) h = tt
+
+search_on : (o : Option Walk) → 1 ≡ duty_at (after_search o)
+search_on None = refl
+search_on (Some w) = refl
+
+start_keeps : {s : Scene} {c : ℕ} {q : CpuData} {pa : ℕ} {space : Space} → Accessing s c q pa space stage.Starting → AccessKeeps s c q pa space stage.Starting (on_act q.geometry q.number)
+start_keeps {s = s} {c = c} {q = q} {pa = pa} {space = space} acting =
+    let o : Option Walk = newest_of q.cache.walks pa in
+    let next : Stage = after_search o in (
+      tt,
+      store_quiet acting (cpu_at q next) 1 (acting.made 0 tt) refl (search_on o) (acting.own 0 ∙ append-nil _)
+          (loads_of acting q.cache next (set s.words (place_of q.geometry (Duty q.number)) 1) (search_loads q.geometry _ pa o)) (stamps_of acting q.cache next s.history (stamps_are acting) (search_stamps q.geometry s.first c (length q.answers) pa space o s.history))
+          (λ w has. search_walks q.cache.walks pa o w refl has),
+    )
+
+-- ---- the load of the generation of a kept walk
+
+-- what is unraised is open
+unraised_open : (y : Size) (x : Caller) (pair : ℕ × Gpi) → In pair (unraised_by y x) → In pair (open_by x)
+unraised_open y (caller.Agent a) pair has = (in_if pair (is_due_at a.stage y) _ has).1
+unraised_open y (caller.Cpu q) pair has = absurd has
+
+-- the GPI of a walk that is hit is allowed, and seen between its tag and the next change
+module _ {s : Scene} {c : ℕ} {q : CpuData} {pa : ℕ} {space : Space} {w : Walk} (acting : Accessing s c q pa space (stage.Trying w)) where
+  tried : WalkHolds q.geometry s.words (map_in s) s.callers w
+  tried = walks_are acting w (in_back w q.cache.walks (w ∷ []) (inl refl))
+
+  covered_here : covers w pa ≡ true
+  covered_here = acting.staged.1
+
+  -- the loaded generation is that of the walk
+  loaded_is : slice_index s.words (gen_place_of q.geometry (walk_size w) pa) ≡ walk_generation q.geometry s.words w
+  loaded_is = ap (generation_word q.geometry s.words (walk_size w)) (tried.home pa covered_here)
+
+  hit_allowed : (now : GivesNow q.geometry (map_in s) s.callers w pa) → StateAllows (state_in s) (looked_entry q.geometry c (length q.answers) pa space now.gpi)
+  hit_allowed now =
+      elim now.known [
+        | inl map ↦ inl (map_here acting ∙ ap Some map)
+        | inr some ↦ inr (open_held (state_in s).opened s.callers some.number (granule_number q.geometry.setup pa) now.gpi some.caller acting.stands.opened some.at (unraised_open (walk_size w) some.caller _ some.has))
+      ]
+
+  hit_saw : (now : GivesNow q.geometry (map_in s) s.callers w pa) → w.tag ≡ walk_generation q.geometry s.words w
+      → SawBetween s.first q.geometry.setup.first (granule_bytes q.geometry.setup) (granule_number q.geometry.setup pa) (walk_size w) w.tag w.tag now.gpi s.history
+  hit_saw now same =
+      let g = q.geometry in
+      let z = walk_size w in
+      let granule : ℕ = granule_number g.setup pa in
+      let count = counted_now acting z in
+      let loaded = loaded_is in
+      elim now.known [
+        | inl map ↦ saw_now s.first g.setup.first (granule_bytes g.setup) granule z w.tag w.tag now.gpi s.history (map_here acting ∙ ap Some map) (omega (arith, same, count.0, loaded)) (omega (arith, same, count.1, loaded))
+        | inr some ↦
+            (let around : generation_around g s.words z granule ≡ w.tag = ap (generation_word g s.words z) (region_around g.setup z pa ∙ tried.home pa covered_here) ∙ sym same in
+            record {
+              number = w.tag;
+              low = omega arith;
+              high = omega arith;
+              gave = subst (λ (n : ℕ). Gave s.first g.setup.first (granule_bytes g.setup) granule z n now.gpi s.history) around (acting.stands.pairs z granule now.gpi some);
+            })
+      ]
+
+  -- the walk decides
+  hit_keeps : (now : GivesNow q.geometry (map_in s) s.callers w pa) → w.tag ≡ walk_generation q.geometry s.words w
+      → IsMade q.geometry (caller.Cpu (cpu_at q (stage.Leaving (table_access space now.gpi (via.Hit w.reach w.tag)))))
+      → own_entries c (cpu_at q (stage.Leaving (table_access space now.gpi (via.Hit w.reach w.tag)))) ≡ own_entries c (cpu_at q (stage.Trying w)) ++ looked_entry q.geometry c (length q.answers) pa space now.gpi ∷ []
+      → HoldsIn q.geometry (scene_after s c (caller.Cpu (cpu_at q (stage.Leaving (table_access space now.gpi (via.Hit w.reach w.tag))))) s.words (looked_entry q.geometry c (length q.answers) pa space now.gpi ∷ []))
+  hit_keeps now same made own =
+      let g = q.geometry in
+      let z = walk_size w in
+      let count = counted_now acting z in
+      let least = (loaded_now acting z).0 in
+      let loaded = loaded_is in
+      decides acting (stage.Leaving (table_access space now.gpi (via.Hit w.reach w.tag))) now.gpi made refl own (hit_allowed now) tt
+      (hit_stamped s.first g.setup.first (granule_bytes g.setup) c (length q.answers) (granule_number g.setup pa) space (table_access space now.gpi (via.Hit w.reach w.tag)) w.reach w.tag s.history _ refl refl
+      (omega (arith, same, least, loaded)) (omega (arith, same, count.0, loaded)) (omega (arith, same, count.1, loaded)) (hit_saw now same))
+      (λ u has. elim (in_parts u q.cache.walks [] has) [ inl old ↦ inl (in_front u q.cache.walks (w ∷ []) old) | inr none ↦ absurd none ])
+
+  -- the walk is old
+  missed_keeps : (n : ℕ) → n ≡ slice_index s.words (gen_place_of q.geometry (walk_size w) pa) → w.tag ≢ n
+      → IsMade q.geometry (caller.Cpu (cpu_at q (stage.Loading size.Two no_generations (Some (old_walk w n)))))
+      → own_entries c (cpu_at q (stage.Loading size.Two no_generations (Some (old_walk w n)))) ≡ own_entries c (cpu_at q (stage.Trying w))
+      → HoldsIn q.geometry (scene_after s c (caller.Cpu (cpu_at q (stage.Loading size.Two no_generations (Some (old_walk w n))))) s.words [])
+  missed_keeps n is apart made own =
+      let low = tried.low in
+      let loaded = loaded_is in
+      load_quiet acting q.cache (stage.Loading size.Two no_generations (Some (old_walk w n))) made refl own
+      ((lt_of w.tag n (omega (arith, low, is, loaded)) apart, subst (IsLoaded q.geometry s.words pa (walk_size w)) (sym is) (loaded_now acting (walk_size w))), λ y before. absurd (none_before y before))
+      tt
+      (λ u has. elim (in_parts u q.cache.walks [] has) [ inl old ↦ in_front u q.cache.walks (w ∷ []) old | inr none ↦ absurd none ])
+
+pub try_keeps : {s : Scene} {c : ℕ} {q : CpuData} {pa : ℕ} {space : Space} (w : Walk) → Accessing s c q pa space (stage.Trying w) → AccessKeeps s c q pa space (stage.Trying w) (gen_load_of q.geometry (tag_size_of w.reach) pa)
+try_keeps {s = s} {c = c} {q = q} {pa = pa} {space = space} w acting =
+    let g = q.geometry in
+    let n : ℕ = slice_index s.words (gen_place_of g (walk_size w) pa) in
+    let made = acting.made n tt in
+    let own = acting.own n in (
+      tt,
+      rw (set-get_or s.words (gen_place_of g (walk_size w) pa) 0)
+          (elim (cases_Bool (eqb n w.tag)) [
+            | inl hits ↦
+                (let same : w.tag ≡ walk_generation g s.words w = sym (eqb-true n w.tag hits) ∙ loaded_is acting in
+                let now = (tried acting).says same pa (covered_here acting) in
+                rw (hits, now.gives) (hit_keeps acting now same (rw (hits, now.gives) at made) (rw (hits, now.gives) at own)))
+            | inr misses ↦
+                rw misses (missed_keeps acting n refl (λ same. absurd (let both = eq-eqb n w.tag (sym same) in let clash : true ≡ false = sym both ∙ misses in cc)) (rw misses at made) ((rw misses at own) ∙ append-nil _))
+          ]),
+    )
+
+-- ---- the load of the L1 word
+
+-- a kept walk that was old before the load was old there
+old_was : {s : Scene} {c : ℕ} {q : CpuData} {pa : ℕ} {space : Space} {st : Stage} (acting : Accessing s c q pa space st) (o : Option OldWalk) → IsOld q.geometry s.words pa o
+    → MatchOption o (Unit {0}) (λ old. WasOld q.geometry.setup.first (granule_bytes q.geometry.setup) (granule_number q.geometry.setup pa) old.reach old.tag old.at s.history)
+old_was acting None old = tt
+old_was acting (Some walk) old = record { newer = old.0; most = omega (arith, old.1.1, (counted_now acting (tag_size_of walk.reach)).0) }
+
+-- a walk that is made of a canonical word holds
+new_walk : {s : Scene} {c : ℕ} {q : CpuData} {pa : ℕ} {space : Space} {st : Stage} (acting : Accessing s c q pa space st) (k : Generations) (word : ℕ) (apart : Option ℕ) (w : Walk) (callers : List Caller) → walk_of pa k word ≡ Some w
+    → word ≡ canonical_word q.geometry.setup (map_in s) apart (granule_number q.geometry.setup pa / 16) → IsLoaded q.geometry s.words pa (walk_size w) w.tag → WalkHolds q.geometry s.words (map_in s) callers w
+new_walk {s = s} {q = q} {pa = pa} acting k word apart w callers made is loaded =
+    let g = q.geometry in
+    let around = walk_is g pa k word w acting.inside made in
+    let parts = walk_parts pa k word (word_reach word) w refl made in
+    let home : (a : ℕ) → covers w a ≡ true → a / size_bytes (walk_size w) ≡ w.first / size_bytes (walk_size w) = λ a covered. home_at w.reach w.first a around.0.aligned covered in
+    let same : slice_index s.words (gen_place_of g (walk_size w) pa) ≡ walk_generation g s.words w = ap (generation_word g s.words (walk_size w)) (home pa around.1) in
+    record {
+      inside = around.0.inside;
+      home = home;
+      low = omega (arith, loaded.1, same);
+      says = λ now a covered. record {
+        gpi = map_in s (granule_number g.setup a);
+        gives = subst (λ (n : ℕ). word_gpi n (place_in_word g.setup a) ≡ Some (map_in s (granule_number g.setup a))) (sym parts.2)
+            (walk_gives g.setup (map_in s) apart pa a word w.reach parts.0 is (subst (λ (n : ℕ). covers_from w.reach n a ≡ true) parts.1 covered));
+        known = inl refl;
+      };
+    }
+
+-- it decides the access: by the map's GPI of its granule
+pub walk_keeps : {s : Scene} {c : ℕ} {q : CpuData} {pa : ℕ} {space : Space} (k : Generations) (m : Option OldWalk) (place : ℕ) → Accessing s c q pa space (stage.Walking k m) → l1_place_of q.geometry pa ≡ Some place
+    → AccessKeeps s c q pa space (stage.Walking k m) (act.Load place)
+walk_keeps {s = s} {c = c} {q = q} {pa = pa} {space = space} k m place acting there =
+    let g = q.geometry in
+    let granule : ℕ = granule_number g.setup pa in
+    let word : ℕ = slice_index s.words place in
+    let at = index_at g pa place there in
+    let index : l1_index g.setup (l0_words g) (granule / 16) ≡ Some at.0 = ap (l1_index g.setup (l0_words g)) (sym (word_by_granule g.setup pa)) ∙ at.1 in
+    let apart : Option ℕ = apart_by g.setup (map holder_by s.callers) (granule / 16) in
+    let is : word ≡ canonical_word g.setup (map_in s) apart (granule / 16) = ap (slice_index s.words) at.2 ∙ acting.stands.tables.level1 (granule / 16) at.0 index in
+    let means = canonical_gives g.setup (map_in s) apart granule word is in
+    let readable : is_some (l1_entry word) ≡ true = word_readable word (place_in_word g.setup pa) (map_in s granule) means in
+    let found = descriptor_walk pa k word readable in
+    let w : Walk = found.0 in
+    let gpi : Gpi = map_in s granule in
+    let gives : walk_gpi g pa w ≡ Some gpi = ap (λ (n : ℕ). word_gpi n (place_in_word g.setup pa)) (walk_parts pa k word (word_reach word) w refl found.1).2 ∙ means in
+    let next : Stage = stage.Closing w m in
+    let y : Size = tag_size_of w.reach in
+    let loaded : IsLoaded g s.words pa y w.tag = subst (IsLoaded g s.words pa y) (sym ((walk_parts pa k word (word_reach word) w refl found.1).3)) ((loads_are acting).1 y) in
+    let missed = old_was acting m (loads_are acting).0 in
+    let decided : DecidedBy g s.first c (length q.answers) pa space w m (s.history ++ looked_entry g c (length q.answers) pa space gpi ∷ []) = record {
+      gpi = gpi;
+      gives = gives;
+      decided = decided_now s.first g.setup.first (granule_bytes g.setup) c (length q.answers) _ space gpi _ m w.reach w.tag s.history _ refl (map_here acting) loaded.0 (omega (arith, loaded.1, (counted_now acting y).0)) missed;
+    } in (
+      readable,
+      rw (set-get_or s.words place 0, found.1, gives)
+          (decides acting next gpi (rw found.1 at (acting.made word readable)) refl (rw (found.1, gives) at (acting.own word)) (inl (map_here acting)) loaded decided
+          (λ u has. elim (in_parts u q.cache.walks (w ∷ []) has) [
+            | inl old ↦ inl (in_front u q.cache.walks [] old)
+            | inr new ↦ inr (let same : w ≡ u = elim new [ inl it ↦ it | inr none ↦ absurd none ] in
+                subst (WalkHolds g s.words (map_in s) (set s.callers c (caller.Cpu (cpu_at q next)))) same (new_walk acting k word apart w _ found.1 is loaded))
+          ])),
+    )
+
+-- ---- any act
+
+-- a load of a generation, after which the processor is still on
+generation_keeps : {s : Scene} {c : ℕ} {q : CpuData} {pa : ℕ} {space : Space} {st : Stage} (acting : Accessing s c q pa space st) (place : ℕ) (next : Stage) → IsReadable st (slice_index s.words place)
+    → took_at (cpu_at q st) (Some (task.Look pa space)) (slice_index s.words place) ≡ cpu_at q next → made_at q.geometry c (length q.answers) st (Some (task.Look pa space)) (slice_index s.words place) ≡ [] → duty_at st ≡ duty_at next
+    → loads_at q.geometry s.words pa next → stamps_at q.geometry s.first c (length q.answers) pa space next s.history → ((w : Walk) → In w (q.cache.walks ++ walk_at next) → In w (q.cache.walks ++ walk_at st)) → AccessKeeps s c q pa space st (act.Load place)
+generation_keeps {s = s} {c = c} {q = q} {pa = pa} {space = space} {st = st} acting place next readable took none on loads stamps walks =
+    let made = subst (λ (x : CpuData). IsMade q.geometry (caller.Cpu x)) took (acting.made (slice_index s.words place) readable) in
+    let own = ap (own_entries c) (sym took) ∙ acting.own (slice_index s.words place) ∙ ap (λ (es : List Entry). own_entries c (cpu_at q st) ++ es) none ∙ append-nil _ in
+    (readable, rw (set-get_or s.words place 0, took, none) (load_quiet acting q.cache next made on own loads stamps walks))
+
 -- one generation more is loaded
-two_loaded : (g : GeometryData) (words : List ℕ) (pa old : ℕ) (k : Generations) → IsLoaded g words pa size.Two old → loads_at g words pa (stage.Loading size.ThirtyTwo (with_generation size.Two old k))
-two_loaded g words pa old k new size.Two before = new
-two_loaded g words pa old k new size.ThirtyTwo before = absurd cc
-two_loaded g words pa old k new size.FiveTwelve before = absurd cc
+two_loaded : (g : GeometryData) (words : List ℕ) (pa old : ℕ) (k : Generations) (y : Size) → IsLoaded g words pa size.Two old → comes_before y size.ThirtyTwo ≡ true → IsLoaded g words pa y (generation_in y (with_generation size.Two old k))
+two_loaded g words pa old k size.Two new before = new
+two_loaded g words pa old k size.ThirtyTwo new before = absurd cc
+two_loaded g words pa old k size.FiveTwelve new before = absurd cc
 
-thirty_two_loaded : (g : GeometryData) (words : List ℕ) (pa old : ℕ) (k : Generations) → loads_at g words pa (stage.Loading size.ThirtyTwo k) → IsLoaded g words pa size.ThirtyTwo old
-    → loads_at g words pa (stage.Loading size.FiveTwelve (with_generation size.ThirtyTwo old k))
-thirty_two_loaded g words pa old k loads new size.Two before = loads size.Two refl
-thirty_two_loaded g words pa old k loads new size.ThirtyTwo before = new
-thirty_two_loaded g words pa old k loads new size.FiveTwelve before = absurd cc
+thirty_two_loaded : (g : GeometryData) (words : List ℕ) (pa old : ℕ) (k : Generations) (y : Size) → ((z : Size) → comes_before z size.ThirtyTwo ≡ true → IsLoaded g words pa z (generation_in z k)) → IsLoaded g words pa size.ThirtyTwo old
+    → comes_before y size.FiveTwelve ≡ true → IsLoaded g words pa y (generation_in y (with_generation size.ThirtyTwo old k))
+thirty_two_loaded g words pa old k size.Two loads new before = loads size.Two refl
+thirty_two_loaded g words pa old k size.ThirtyTwo loads new before = new
+thirty_two_loaded g words pa old k size.FiveTwelve loads new before = absurd cc
 
-all_loaded : (g : GeometryData) (words : List ℕ) (pa old : ℕ) (k : Generations) → loads_at g words pa (stage.Loading size.FiveTwelve k) → IsLoaded g words pa size.FiveTwelve old
-    → loads_at g words pa (stage.Walking (with_generation size.FiveTwelve old k))
-all_loaded g words pa old k loads new size.Two = loads size.Two refl
-all_loaded g words pa old k loads new size.ThirtyTwo = loads size.ThirtyTwo refl
-all_loaded g words pa old k loads new size.FiveTwelve = new
+all_loaded : (g : GeometryData) (words : List ℕ) (pa old : ℕ) (k : Generations) (y : Size) → ((z : Size) → comes_before z size.FiveTwelve ≡ true → IsLoaded g words pa z (generation_in z k)) → IsLoaded g words pa size.FiveTwelve old
+    → IsLoaded g words pa y (generation_in y (with_generation size.FiveTwelve old k))
+all_loaded g words pa old k size.Two loads new = loads size.Two refl
+all_loaded g words pa old k size.ThirtyTwo loads new = loads size.ThirtyTwo refl
+all_loaded g words pa old k size.FiveTwelve loads new = new
+
+load_keeps : {s : Scene} {c : ℕ} {q : CpuData} {pa : ℕ} {space : Space} (z : Size) (k : Generations) (m : Option OldWalk) → Accessing s c q pa space (stage.Loading z k m) → AccessKeeps s c q pa space (stage.Loading z k m) (gen_load_of q.geometry z pa)
+load_keeps {s = s} {q = q} {pa = pa} size.Two k m acting =
+    generation_keeps acting _ _ tt refl refl refl ((loads_are acting).0, λ y before. two_loaded q.geometry s.words pa _ k y (loaded_now acting size.Two) before) tt (λ w has. has)
+load_keeps {s = s} {q = q} {pa = pa} size.ThirtyTwo k m acting =
+    generation_keeps acting _ _ tt refl refl refl ((loads_are acting).0, λ y before. thirty_two_loaded q.geometry s.words pa _ k y (loads_are acting).1 (loaded_now acting size.ThirtyTwo) before) tt (λ w has. has)
+load_keeps {s = s} {q = q} {pa = pa} size.FiveTwelve k m acting =
+    generation_keeps acting _ _ tt refl refl refl ((loads_are acting).0, λ y. all_loaded q.geometry s.words pa _ k y (loads_are acting).1 (loaded_now acting size.FiveTwelve)) tt (λ w has. has)
+
+-- with the generation loaded again the stamps are whole, and the walk is kept
+close_keeps : {s : Scene} {c : ℕ} {q : CpuData} {pa : ℕ} {space : Space} (w : Walk) (m : Option OldWalk) → Accessing s c q pa space (stage.Closing w m) → AccessKeeps s c q pa space (stage.Closing w m) (gen_load_of q.geometry (tag_size_of w.reach) pa)
+close_keeps {s = s} {c = c} {q = q} {pa = pa} {space = space} w m acting =
+    let g = q.geometry in
+    let n : ℕ = slice_index s.words (gen_place_of g (tag_size_of w.reach) pa) in
+    let loads = loads_are acting in
+    let now = counted_now acting (tag_size_of w.reach) in
+    let known = decided_is acting in
+    let next : Stage = stage.Leaving (table_access space known.gpi (walked m w.reach w.tag n)) in
+    let r : RingData = ring_after (stage.Closing w m) q.cache in (
+      tt,
+      rw (set-get_or s.words (gen_place_of g (tag_size_of w.reach) pa) 0, known.gives)
+          (load_quiet acting r next (rw known.gives at (acting.made n tt)) refl ((rw known.gives at (acting.own n)) ∙ append-nil _) tt
+          (walk_stamped s.first g.setup.first (granule_bytes g.setup) c (length q.answers) _ space (table_access space known.gpi (walked m w.reach w.tag n)) m w.reach w.tag n s.history refl loads.1 now.0 now.1 known.decided)
+          (λ u has. elim (in_parts u r.walks [] has) [ inl old ↦ in_drop u _ (q.cache.walks ++ w ∷ []) old | inr none ↦ absurd none ])),
+    )
 
 only_first : (i : ℕ) (x y : Answer) → slice_get (x ∷ []) i ≡ Some y → i ≡ 0
 only_first zero x y there = refl
@@ -301,22 +530,12 @@ only_is : (i : ℕ) (x y : Answer) → slice_get (x ∷ []) i ≡ Some y → x �
 only_is zero x y there = cc
 only_is (suc i) x y there = absurd cc
 
--- with the generation loaded again the stamps are whole
-closed_stamped : {s : Scene} {c : ℕ} {q : CpuData} {pa : ℕ} {space : Space} (w : Walk) (acting : Accessing s c q pa space (stage.Closing w))
-    → stamps_at q.geometry s.first c (length q.answers) pa space (stage.Leaving w (slice_index s.words (gen_place_of q.geometry (tag_size_of w.reach) pa))) s.history
-closed_stamped {s = s} {c = c} {q = q} {pa = pa} {space = space} w acting =
-    let g = q.geometry in
-    let y : Size = tag_size_of w.reach in
-    let loads = loads_are acting in
-    let now = counted_now acting y in
-    walk_stamped s.first g.setup.first (granule_bytes g.setup) c (length q.answers) _ space (walk_access space w _) None w.reach w.lo _ s.history refl loads.1 now.0 now.1 (decided_is acting)
-
 -- the access is answered, and those after it that have no acts
-answered_stamped : {s : Scene} {c : ℕ} {q : CpuData} {pa : ℕ} {space : Space} (w : Walk) (hi : ℕ) (acting : Accessing s c q pa space (stage.Leaving w hi))
-    → cpu_stamps s.first s.history c (after_answer (goes_to q (stage.Leaving w hi)) (walk_answer space w hi))
-answered_stamped {s = s} {c = c} {q = q} {pa = pa} {space = space} w hi acting =
+answered_stamped : {s : Scene} {c : ℕ} {q : CpuData} {pa : ℕ} {space : Space} (access : Access) (acting : Accessing s c q pa space (stage.Leaving access))
+    → cpu_stamps s.first s.history c (after_answer (cpu_at q (stage.Leaving access)) (answer.Seen access))
+answered_stamped {s = s} {c = c} {q = q} {pa = pa} {space = space} access acting =
     let g = q.geometry in
-    let given : Answer = walk_answer space w hi in
+    let given : Answer = answer.Seen access in
     let idle = idle_answers g (drop (length q.answers + 1) q.tasks) in (
       λ k t found asked answered.
           elim (get_append (q.answers ++ given ∷ []) idle k found answered) [
@@ -333,43 +552,39 @@ answered_stamped {s = s} {c = c} {q = q} {pa = pa} {space = space} w hi acting =
                   (subst (λ (u : Task). IsStampedCall s.first g.setup.first (granule_bytes g.setup) c (length q.answers) u given s.history) task_is (λ walked. decided_is acting))))
             ]
           ],
-      starting_stamps g s.first c (length ((q.answers ++ given ∷ []) ++ idle)) (task_of (after_answer (goes_to q (stage.Leaving w hi)) given)) s.history,
+      starting_stamps g s.first c (length ((q.answers ++ given ∷ []) ++ idle)) (task_of (after_answer (cpu_at q (stage.Leaving access)) given)) s.history,
     )
+
+leave_keeps : {s : Scene} {c : ℕ} {q : CpuData} {pa : ℕ} {space : Space} (access : Access) → Accessing s c q pa space (stage.Leaving access) → AccessKeeps s c q pa space (stage.Leaving access) (off_act q.geometry q.number)
+leave_keeps {s = s} {c = c} {q = q} access acting =
+    let after = after_answer (cpu_at q (stage.Leaving access)) (answer.Seen access) in
+    (tt, store_quiet acting after 0 (acting.made 0 tt) refl refl (acting.own 0 ∙ append-nil _) (starting_loads q.geometry (set s.words (place_of q.geometry (Duty q.number)) 0) (task_of after)) (answered_stamped access acting) (λ w has. has))
 
 -- by its stage: for each kind of act one row
 pub access_keeps : {s : Scene} {c : ℕ} {q : CpuData} {pa : ℕ} {space : Space} (st : Stage) (next : Act) → Accessing s c q pa space st → act_at q.geometry q.number pa st ≡ Some next → AccessKeeps s c q pa space st next
 access_keeps {s = s} {c = c} {q = q} {pa = pa} {space = space} stage.Starting next acting e =
-    subst (AccessKeeps s c q pa space stage.Starting) (let same : on_act q.geometry q.number ≡ next = cc in same) (
-      tt,
-      store_quiet acting (goes_to q (stage.Loading size.Two no_generations)) 1 (acting.made 0 tt) refl refl (acting.own 0 ∙ append-nil _)
-          (loads_of acting (stage.Loading size.Two no_generations) (set s.words (place_of q.geometry (Duty q.number)) 1) (λ y before. absurd (none_before y before))) (stamps_of acting (stage.Loading size.Two no_generations) s.history (stamps_are acting) tt),
-    )
-access_keeps {s = s} {c = c} {q = q} {pa = pa} {space = space} (stage.Loading size.Two k) next acting e =
-    subst (AccessKeeps s c q pa space (stage.Loading size.Two k)) (let same : gen_load_of q.geometry size.Two pa ≡ next = cc in same) (generation_keeps acting _ _ tt refl refl refl (two_loaded q.geometry s.words pa (slice_index s.words (gen_place_of q.geometry size.Two pa)) k (loaded_now acting size.Two)) tt)
-access_keeps {s = s} {c = c} {q = q} {pa = pa} {space = space} (stage.Loading size.ThirtyTwo k) next acting e =
-    subst (AccessKeeps s c q pa space (stage.Loading size.ThirtyTwo k)) (let same : gen_load_of q.geometry size.ThirtyTwo pa ≡ next = cc in same) (generation_keeps acting _ _ tt refl refl refl (thirty_two_loaded q.geometry s.words pa (slice_index s.words (gen_place_of q.geometry size.ThirtyTwo pa)) k (loads_are acting) (loaded_now acting size.ThirtyTwo)) tt)
-access_keeps {s = s} {c = c} {q = q} {pa = pa} {space = space} (stage.Loading size.FiveTwelve k) next acting e =
-    subst (AccessKeeps s c q pa space (stage.Loading size.FiveTwelve k)) (let same : gen_load_of q.geometry size.FiveTwelve pa ≡ next = cc in same) (generation_keeps acting _ _ tt refl refl refl (all_loaded q.geometry s.words pa (slice_index s.words (gen_place_of q.geometry size.FiveTwelve pa)) k (loads_are acting) (loaded_now acting size.FiveTwelve)) tt)
-access_keeps {s = s} {c = c} {q = q} {pa = pa} {space = space} (stage.Walking k) next acting e =
+    subst (AccessKeeps s c q pa space stage.Starting) (let same : on_act q.geometry q.number ≡ next = cc in same) (start_keeps acting)
+access_keeps {s = s} {c = c} {q = q} {pa = pa} {space = space} (stage.Trying w) next acting e =
+    subst (AccessKeeps s c q pa space (stage.Trying w)) (let same : gen_load_of q.geometry (tag_size_of w.reach) pa ≡ next = cc in same) (try_keeps w acting)
+access_keeps {s = s} {c = c} {q = q} {pa = pa} {space = space} (stage.Loading z k m) next acting e =
+    subst (AccessKeeps s c q pa space (stage.Loading z k m)) (let same : gen_load_of q.geometry z pa ≡ next = cc in same) (load_keeps z k m acting)
+access_keeps {s = s} {c = c} {q = q} {pa = pa} {space = space} (stage.Walking k m) next acting e =
     let load = some_mapped act.Load (l1_place_of q.geometry pa) next e in
-    subst (AccessKeeps s c q pa space (stage.Walking k)) load.2 (walk_keeps k load.0 acting load.1)
-access_keeps {s = s} {c = c} {q = q} {pa = pa} {space = space} (stage.Closing w) next acting e =
-    subst (AccessKeeps s c q pa space (stage.Closing w)) (let same : gen_load_of q.geometry (tag_size_of w.reach) pa ≡ next = cc in same) (generation_keeps acting (gen_place_of q.geometry (tag_size_of w.reach) pa) (stage.Leaving w (slice_index s.words (gen_place_of q.geometry (tag_size_of w.reach) pa))) tt refl refl refl tt (closed_stamped w acting))
-access_keeps {s = s} {c = c} {q = q} {pa = pa} {space = space} (stage.Leaving w hi) next acting e =
-    subst (AccessKeeps s c q pa space (stage.Leaving w hi)) (let same : off_act q.geometry q.number ≡ next = cc in same) (
-      tt,
-      store_quiet acting (after_answer (goes_to q (stage.Leaving w hi)) (walk_answer space w hi)) 0 (acting.made 0 tt) refl refl (acting.own 0 ∙ append-nil _)
-          (starting_loads q.geometry (set s.words (place_of q.geometry (Duty q.number)) 0) (task_of (after_answer (goes_to q (stage.Leaving w hi)) (walk_answer space w hi)))) (answered_stamped w hi acting),
-    )
+    subst (AccessKeeps s c q pa space (stage.Walking k m)) load.2 (walk_keeps k m load.0 acting load.1)
+access_keeps {s = s} {c = c} {q = q} {pa = pa} {space = space} (stage.Closing w m) next acting e =
+    subst (AccessKeeps s c q pa space (stage.Closing w m)) (let same : gen_load_of q.geometry (tag_size_of w.reach) pa ≡ next = cc in same) (close_keeps w m acting)
+access_keeps {s = s} {c = c} {q = q} {pa = pa} {space = space} (stage.Leaving access) next acting e =
+    subst (AccessKeeps s c q pa space (stage.Leaving access)) (let same : off_act q.geometry q.number ≡ next = cc in same) (leave_keeps access acting)
 
 -- a load, or a store of its duty word, which it sets where it is off and clears where it is on
 pub how_acts : (g : GeometryData) (p pa : ℕ) (st : Stage) (next : Act) → act_at g p pa st ≡ Some next
     → (next ≡ act.Load (place_in next)) ⊎ (((next ≡ on_act g p) × (duty_at st ≡ 0)) ⊎ ((next ≡ off_act g p) × (duty_at st ≡ 1)))
 how_acts g p pa stage.Starting next e = inr (inl (cc, refl))
-how_acts g p pa (stage.Loading z k) next e = let same : gen_load_of g z pa ≡ next = cc in rw (← same) (inl refl)
-how_acts g p pa (stage.Walking k) next e = let load = some_mapped act.Load (l1_place_of g pa) next e in rw (← load.2) (inl refl)
-how_acts g p pa (stage.Closing w) next e = let same : gen_load_of g (tag_size_of w.reach) pa ≡ next = cc in rw (← same) (inl refl)
-how_acts g p pa (stage.Leaving w hi) next e = inr (inr (cc, refl))
+how_acts g p pa (stage.Trying w) next e = let same : gen_load_of g (tag_size_of w.reach) pa ≡ next = cc in rw (← same) (inl refl)
+how_acts g p pa (stage.Loading z k m) next e = let same : gen_load_of g z pa ≡ next = cc in rw (← same) (inl refl)
+how_acts g p pa (stage.Walking k m) next e = let load = some_mapped act.Load (l1_place_of g pa) next e in rw (← load.2) (inl refl)
+how_acts g p pa (stage.Closing w m) next e = let same : gen_load_of g (tag_size_of w.reach) pa ≡ next = cc in rw (← same) (inl refl)
+how_acts g p pa (stage.Leaving access) next e = inr (inr (cc, refl))
 
 -- ---- a processor with a next act is at a stage of an access, which has it
 
@@ -383,7 +598,7 @@ cpu_took_made g q next old made readable e = (
   step_walks made.2 q made.3 next old made.1 made.4 readable e,
 )
 
-pub record Access (g : GeometryData) (s : Scene) (c : ℕ) (q : CpuData) (next : Act) : Type 0 where
+pub record ActsNext (g : GeometryData) (s : Scene) (c : ℕ) (q : CpuData) (next : Act) : Type 0 where
   pub geometry : q.geometry ≡ g
   pub pa : ℕ
   pub space : Space
@@ -391,7 +606,7 @@ pub record Access (g : GeometryData) (s : Scene) (c : ℕ) (q : CpuData) (next :
   pub acting : Accessing s c q pa space q.stage
   pub acts : act_at q.geometry q.number pa q.stage ≡ Some next
 
-access_of : (g : GeometryData) (s : Scene) (c : ℕ) (q : CpuData) (next : Act) (o : Option Task) → HoldsIn g s → slice_get s.callers c ≡ Some (caller.Cpu q) → next_of q ≡ Some next → task_of q ≡ o → next_at q o ≡ Some next → Access g s c q next
+access_of : (g : GeometryData) (s : Scene) (c : ℕ) (q : CpuData) (next : Act) (o : Option Task) → HoldsIn g s → slice_get s.callers c ≡ Some (caller.Cpu q) → next_of q ≡ Some next → task_of q ≡ o → next_at q o ≡ Some next → ActsNext g s c q next
 access_of g s c q next (Some (task.Look pa space)) stands at e under_way acts =
     let made = made_at_place g s c (caller.Cpu q) stands at in
     record {
@@ -403,14 +618,15 @@ access_of g s c q next (Some (task.Look pa space)) stands at e under_way acts =
         stands = subst (λ (k : GeometryData). HoldsIn k s) (sym made.0) stands;
         at = at;
         is = made.1;
+        staged = subst (λ (o : Option Task). IsAt q.geometry o q.stage) under_way made.1.stage;
         under_way = under_way;
         inside = access_at q (task.Look pa space) made.1 under_way;
         made = λ old readable. subst (λ (o : Option Task). IsMade q.geometry (caller.Cpu (took_at q o old))) under_way (cpu_took_made q.geometry q next old (refl, made.1, made.2, made.3, made.4) readable e);
-        own = λ old. subst (λ (o : Option Task). own_entries c (took_at q o old) ≡ own_entries c q ++ made_at q.geometry c (length q.answers) q.stage o old) under_way (step_entries c q next old e);
+        own = λ old. subst (λ (o : Option Task). own_entries c (took_at q o old) ≡ own_entries c q ++ made_at q.geometry c (length q.answers) q.stage o old) under_way (step_entries c made.2 q made.3 next old made.4 e);
       };
       acts = acts;
     }
 access_of g s c q next o stands at e under_way acts = absurd cc
 
-pub cpu_accessing : (g : GeometryData) (s : Scene) (c : ℕ) (q : CpuData) (next : Act) → HoldsIn g s → slice_get s.callers c ≡ Some (caller.Cpu q) → next_of q ≡ Some next → Access g s c q next
+pub cpu_accessing : (g : GeometryData) (s : Scene) (c : ℕ) (q : CpuData) (next : Act) → HoldsIn g s → slice_get s.callers c ≡ Some (caller.Cpu q) → next_of q ≡ Some next → ActsNext g s c q next
 cpu_accessing g s c q next stands at e = access_of g s c q next (task_of q) stands at e refl e

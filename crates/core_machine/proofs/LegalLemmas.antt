@@ -120,7 +120,7 @@ cpu_known tasks answers c q events asks given cpu walked =
     All-append (IsKnown q.geometry tasks answers)
     (answered_entries (granule_bytes q.geometry.setup) c 0 q.tasks q.answers)
     (cpu_entries q.geometry c (length q.answers) q.stage (cpu_task q))
-    (accessed_each (IsKnown q.geometry tasks answers) q.geometry q.number c 0 q.tasks q.answers walked.calls walked.answered (λ j t there. access_there q j t cpu there)
+    (accessed_each (IsKnown q.geometry tasks answers) q.geometry q.number c 0 q.tasks [] q.answers walked.kept walked.calls walked.answered (λ j t there. access_there q j t cpu there)
     (λ j t b e task_is answer_is own.
     known_of q.geometry tasks answers c j t b e (own_task tasks c q.tasks j asks ∙ task_is)
     (fits_given (answer_at answers c j) b (own_answer answers c q.answers j given ∙ answer_is))

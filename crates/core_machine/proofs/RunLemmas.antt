@@ -7,6 +7,9 @@ use Rattle.std.specs.Option.{option_map}
 use Rattle.std.proofs.lemmas.Bool.{cases_Bool}
 use Rattle.std.proofs.lemmas.List.{length-map}
 use Rattle.std.proofs.lemmas.Option.{slice_get_cases, slice_get-map, slice_get_past, slice_get_within, get_or_from_slice_get}
+use Rattle.history.specs.Rings.{AreRinged, HasRings, IsRinged, named_in}
+use Rattle.history.specs.declared.rings.Named.{Named}
+use Rattle.processor.proofs.RingLemmas.{walked_ringed}
 use Rattle.core_machine.proofs.Names.{Gpi, Entry, start, after_entry, state_after, Size, granule_bytes, size_bytes, GeometryData, blocks_in_region, word_count, Duty, place_of, CallEvent, CpuData, IsCpu, Act, lock_number, lock_bit, Scenario, Script, Task, Answer, answer_at, count_of, AgentData, IsAgent, next_of, Caller, caller_next, caller_answers, known_answers, duty_by, number_by, holds, is_due, caller_tasks, IsMade, HoldsIn, InvariantFor, scene_of, caller_of, callers_from, cpu_number, opening_of, played, IsCounted, generation_word, TraceEvent, history_of, first_map, geometry_of, task_of_ask, task_of_look, turns_in, Scene, is_inside, coming_at}
 use Rattle.core_machine.proofs.Names.script
 use Rattle.core_machine.proofs.Names.task
@@ -134,7 +137,7 @@ AreNumbered g callers = (p : ℕ) → p < g.cpus → (c : ℕ) × (x : Caller) �
 off_by : (g : GeometryData) (x : Caller) → IsMade g x → length (caller_tasks x) ≤ length (caller_answers x) → duty_by x ≡ 0
 off_by g (caller.Agent a) made all = refl
 off_by g (caller.Cpu q) made all =
-    let starting : q.stage ≡ progress.Starting = subst (λ (o : Option Task). IsAt o q.stage) (slice_get_past q.tasks (length q.answers) all) made.1.stage in
+    let starting : q.stage ≡ progress.Starting = subst (λ (o : Option Task). IsAt q.geometry o q.stage) (slice_get_past q.tasks (length q.answers) all) made.1.stage in
     ap duty_at starting
 
 pub duty_ended : (g : GeometryData) (s : Scene) (tasks : List (List Task)) → HoldsIn g s → HaveTasks tasks s.callers → AreNumbered g s.callers
@@ -167,7 +170,7 @@ caller_look g c k (caller.Agent a) pa space given is asked answered =
     (let none : is_look (get_or a.tasks k (task.Look pa space)) ≡ false = is.1.no_looks k (task.Look pa space) (slice_get_within a.tasks k (task.Look pa space) asked) in
     let both : true ≡ false = sym (ap is_look (get_or_from_slice_get a.tasks k (task.Look pa space) (task.Look pa space) asked)) ∙ none in cc)
 caller_look g c k (caller.Cpu q) pa space given is asked answered =
-    subst (λ (v : GeometryData). IsAccessAnswer v pa space given) is.0 (access_answer q.geometry q.number c 0 k q.tasks q.answers is.3.calls pa space given is.3.answered asked answered)
+    subst (λ (v : GeometryData). IsAccessAnswer v pa space given) is.0 (access_answer q.geometry q.number c 0 k q.tasks [] q.answers is.3.kept is.3.calls pa space given is.3.answered asked answered)
 
 looks_told : (g : GeometryData) (callers : List Caller) (tasks : List (List Task)) → HaveTasks tasks callers → AreMade g callers → (c k pa : ℕ) (space : Space) (given : Answer) → task_at tasks c k ≡ Some (task.Look pa space)
     → answer_at (map caller_answers callers) c k ≡ Some given → IsAccessAnswer g pa space given
@@ -208,6 +211,30 @@ caller_stamped g map h c (caller.Agent a) is stamps = λ k t given asked answere
 caller_stamped g map h c (caller.Cpu q) is stamps =
     subst (λ (v : GeometryData). AreStamped map v.setup.first (granule_bytes v.setup) c q.tasks q.answers h) is.0 stamps.0
 
+-- answers of calls that are no accesses say nothing of rings
+plain_ring : (ring : ℕ) (walks : List Named) (t : Task) (given : Answer) → is_look t ≡ false → IsRinged ring walks t given
+plain_ring ring walks (task.Look pa space) given transition = absurd cc
+plain_ring ring walks (task.Delegate pa source) given transition = tt
+plain_ring ring walks (task.Undelegate pa source) given transition = tt
+plain_ring ring walks task.Unknown given transition = tt
+
+plain_rings : (ring : ℕ) (walks : List Named) (tasks : List Task) (answers : List Answer) → ((k : ℕ) (t : Task) → slice_get tasks k ≡ Some t → is_look t ≡ false) → AreRinged ring walks tasks answers
+plain_rings ring walks [] answers plain = tt
+plain_rings ring walks (t ∷ tasks) [] plain = tt
+plain_rings ring walks (t ∷ tasks) (given ∷ answers) plain = (plain_ring ring walks t given (plain 0 t refl), plain_rings ring (walks ++ named_in t given) tasks answers (λ k u there. plain (suc k) u there))
+
+caller_ringed : (g : GeometryData) (c : ℕ) (x : Caller) → IsWalked g c x → AreRinged g.setup.ring [] (caller_tasks x) (caller_answers x)
+caller_ringed g c (caller.Agent a) is =
+    plain_rings g.setup.ring [] a.tasks a.answers (λ k t asked. ap is_look (sym (get_or_from_slice_get a.tasks k t t asked)) ∙ is.1.no_looks k t (slice_get_within a.tasks k t asked))
+caller_ringed g c (caller.Cpu q) is = subst (λ (v : GeometryData). AreRinged v.setup.ring [] q.tasks q.answers) is.0 (walked_ringed c q is.2 is.3)
+
+-- the rings of all processors
+rings_told : (g : GeometryData) (s : Scene) (tasks : List (List Task)) → HaveTasks tasks s.callers → AreMade g s.callers → HasRings g.setup.ring tasks (map caller_answers s.callers)
+rings_told g s tasks have made c own given asks answers =
+    let there = some_mapped caller_answers (slice_get s.callers c) given (sym (slice_get-map caller_answers s.callers c) ∙ answers) in
+    let same : caller_tasks there.0 ≡ own = (let both : Some (caller_tasks there.0) ≡ Some own = sym (have c there.0 there.1) ∙ asks in cc) in
+    subst (λ (ts : List Task). AreRinged g.setup.ring [] ts given) same (subst (AreRinged g.setup.ring [] (caller_tasks there.0)) there.2 (caller_ringed g c there.0 (made c there.0 there.1)))
+
 -- the stamps of all accesses
 stamps_told : (g : GeometryData) (s : Scene) (tasks : List (List Task)) → HoldsIn g s → HaveTasks tasks s.callers → AreMade g s.callers
     → HasStamps s.first g.setup.first (granule_bytes g.setup) tasks (map caller_answers s.callers) s.history
@@ -235,6 +262,7 @@ fits_history g s tasks stands have made numbered count =
       worn = worn_told g s tasks stands have made;
       final = final_told (granule_bytes g.setup) s.first tasks (map caller_answers s.callers) s.history (made_legal g s.first s.callers s.history tasks stands.history have made stands.shape.granules);
       stamps = stamps_told g s tasks stands have made;
+      rings = rings_told g s tasks have made;
       undisturbed = stands.undisturbed;
       alone = alone_told g s stands made;
       tables = tables_told g s stands;

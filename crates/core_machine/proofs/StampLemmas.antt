@@ -19,7 +19,8 @@ use Rattle.processor.specs.InnerProgress.{Stage}
 use Rattle.processor.specs.InnerProgress as stage
 use Rattle.processor.specs.InnerCpus.{answered_first, idle_answer, idle_answers, task_of}
 use Rattle.processor.proofs.CpuLemmas.{access_at, some_mapped}
-use Rattle.core_machine.specs.InnerCpuCaller.{IsLoaded, loads_at, loads_by, stamps_at, stamps_by}
+use Rattle.history.specs.declared.call.OldWalk.{OldWalk}
+use Rattle.core_machine.specs.InnerCpuCaller.{IsLoaded, IsOld, loads_at, loads_by, stamps_at, stamps_by}
 use Rattle.core_machine.specs.InnerCallers.{HasLoaded, HasOwnStamps}
 use Rattle.core_machine.proofs.AddressLemmas.{granule_back, word_by_granule}
 
@@ -43,10 +44,14 @@ loaded_rises g words after pa y value inside rises loaded =
     let more : slice_index words (gen_place_of g y pa) ≤ slice_index after (gen_place_of g y pa) = rises y (pa / size_bytes y) (generation_named g y pa inside) in
     (loaded.0, omega (arith, loaded.1, more))
 
+old_rises : (g : GeometryData) (words after : List ℕ) (pa : ℕ) (o : Option OldWalk) → pa < space_bytes g.setup → Rises g words after → IsOld g words pa o → IsOld g after pa o
+old_rises g words after pa None inside rises old = tt
+old_rises g words after pa (Some walk) inside rises old = (old.0, loaded_rises g words after pa (tag_size_of walk.reach) walk.at inside rises old.1)
+
 loads_rise : (g : GeometryData) (words after : List ℕ) (pa : ℕ) (s : Stage) → pa < space_bytes g.setup → Rises g words after → loads_at g words pa s → loads_at g after pa s
-loads_rise g words after pa (stage.Loading z k) inside rises loads = λ y before. loaded_rises g words after pa y (generation_in y k) inside rises (loads y before)
-loads_rise g words after pa (stage.Walking k) inside rises loads = λ y. loaded_rises g words after pa y (generation_in y k) inside rises (loads y)
-loads_rise g words after pa (stage.Closing w) inside rises loads = loaded_rises g words after pa (tag_size_of w.reach) w.lo inside rises loads
+loads_rise g words after pa (stage.Loading z k m) inside rises loads = (old_rises g words after pa m inside rises loads.0, λ y before. loaded_rises g words after pa y (generation_in y k) inside rises (loads.1 y before))
+loads_rise g words after pa (stage.Walking k m) inside rises loads = (old_rises g words after pa m inside rises loads.0, λ y. loaded_rises g words after pa y (generation_in y k) inside rises (loads.1 y))
+loads_rise g words after pa (stage.Closing w m) inside rises loads = loaded_rises g words after pa (tag_size_of w.reach) w.tag inside rises loads
 loads_rise g words after pa s inside rises loads = tt
 
 task_loads_rise : (g : GeometryData) (words after : List ℕ) (s : Stage) (o : Option Task) → ((t : Task) → o ≡ Some t → IsAccess g t) → Rises g words after → loads_by g words s o → loads_by g after s o
@@ -62,8 +67,9 @@ caller_loads_rise g words after (caller.Cpu q) made rises loads =
 -- ---- histories only grow
 
 at_grows : (g : GeometryData) (map : List Gpi) (c k pa : ℕ) (space : Space) (s : Stage) (h made : List Entry) → stamps_at g map c k pa space s h → stamps_at g map c k pa space s (h ++ made)
-at_grows g map c k pa space (stage.Closing w) h made stamps = decided_later map g.setup.first (granule_bytes g.setup) c k _ space w.gpi _ None w.reach w.lo h made _ refl stamps
-at_grows g map c k pa space (stage.Leaving w hi) h made stamps = stamped_later map g.setup.first (granule_bytes g.setup) c k _ space _ h made _ refl stamps
+at_grows g map c k pa space (stage.Closing w m) h made stamps =
+    record { gpi = stamps.gpi; gives = stamps.gives; decided = decided_later map g.setup.first (granule_bytes g.setup) c k _ space stamps.gpi _ m w.reach w.tag h made _ refl stamps.decided }
+at_grows g map c k pa space (stage.Leaving access) h made stamps = stamped_later map g.setup.first (granule_bytes g.setup) c k _ space _ h made _ refl stamps
 at_grows g map c k pa space s h made stamps = tt
 
 by_grows : (g : GeometryData) (map : List Gpi) (c k : ℕ) (s : Stage) (o : Option Task) (h made : List Entry) → stamps_by g map c k s o h → stamps_by g map c k s o (h ++ made)

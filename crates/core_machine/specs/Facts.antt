@@ -23,6 +23,7 @@ use Rattle.history.specs.States.{start, state_after}
 use Rattle.history.specs.Legality.{needed, is_still, IsSeen}
 use Rattle.history.specs.Calls.{task_at, answer_at, IsLegalHistory, HasCalls}
 use Rattle.history.specs.Stamps.{HasStamps, gpi_after}
+use Rattle.history.specs.Rings.{HasRings}
 use Rattle.history.specs.Counts.{is_by, count_of, AreDoneCounts, IsWornCount}
 use Rattle.delegate_ops.specs.Deciding.{is_look, HasCause}
 use Rattle.delegate_ops.specs.Script.{granule_of_task}
@@ -138,6 +139,8 @@ pub record FitsHistory (g : GeometryData) (first : List Gpi) (tasks : List (List
   pub final : AreFinal first answers h
   -- the generations that accesses are answered
   pub stamps : HasStamps first g.setup.first (granule_bytes g.setup) tasks answers h
+  -- which kept walk an access found, and whether it was hit
+  pub rings : HasRings g.setup.ring tasks answers
   -- transitions on one lock block don't mix
   pub undisturbed : AreUndisturbed g.setup h
   pub alone : AreAlone g.setup answers h

@@ -1,5 +1,5 @@
 -- A processor as a caller: what each fact of the core reads of it.
-use Rattle.std.specs.Prelude.{◌≡◌, ℕ, ◌-◌, ◌≤◌, Bool, true, false, List, [], length, slice_index, Option, Some, None}
+use Rattle.std.specs.Prelude.{◌≡◌, ℕ, ◌-◌, ◌≤◌, ◌<◌, Bool, true, false, List, [], ◌∷◌, ◌++◌, length, slice_index, Option, Some, None}
 use Rattle.gpi_values.specs.declared.gpi.Gpi.{Gpi}
 use Rattle.gpt_descriptors.specs.declared.size.Size.{Size}
 use Rattle.gpi_values.specs.declared.gpi.Space.{Space}
@@ -14,10 +14,11 @@ use Rattle.history.specs.declared.call.Access.{Access}
 use Rattle.history.specs.declared.call.Answer.{Answer}
 use Rattle.history.specs.declared.entry.Entry.{Entry}
 use Rattle.history.specs.Stamps.{IsStamped, AreStamped}
-use Rattle.history.specs.InnerStamps.{IsDecided, walked}
+use Rattle.history.specs.InnerStamps.{IsDecided}
+use Rattle.history.specs.declared.call.OldWalk.{OldWalk}
+use Rattle.processor.specs.Accesses.{walk_gpi}
 use Rattle.history.specs.Events.{CallEvent}
 pub use Rattle.processor.specs.InnerCpus.{duty_at}
-use Rattle.processor.specs.declared.walk.Walk.{Walk as Found}
 use Rattle.walk_cache.specs.declared.walk.Walk.{Walk}
 use Rattle.processor.specs.InnerProgress.{Stage}
 use Rattle.processor.specs.InnerProgress as stage
@@ -80,11 +81,18 @@ abbrev pub IsLoaded : GeometryData → List ℕ → ℕ → Size → ℕ → Typ
 IsLoaded g words pa y value =
     (g.setup.first ≤ value) × (value ≤ slice_index words (gen_place_of g y pa))
 
+-- so is that of a kept walk which wasn't hit, and it is above the walk's tag
+abbrev pub IsOld : GeometryData → List ℕ → ℕ → Option OldWalk → Type 0
+IsOld g words pa None = Unit {0}
+IsOld g words pa (Some old) =
+    (old.tag < old.at) × IsLoaded g words pa (tag_size_of old.reach) old.at
+
 abbrev pub loads_at : GeometryData → List ℕ → ℕ → Stage → Type 0
-loads_at g words pa (stage.Loading z k) =
-    (y : Size) → comes_before y z ≡ true → IsLoaded g words pa y (generation_in y k)
-loads_at g words pa (stage.Walking k) = (y : Size) → IsLoaded g words pa y (generation_in y k)
-loads_at g words pa (stage.Closing w) = IsLoaded g words pa (tag_size_of w.reach) w.lo
+loads_at g words pa (stage.Loading z k m) = IsOld g words pa m
+    × ((y : Size) → comes_before y z ≡ true → IsLoaded g words pa y (generation_in y k))
+loads_at g words pa (stage.Walking k m) = IsOld g words pa m
+    × ((y : Size) → IsLoaded g words pa y (generation_in y k))
+loads_at g words pa (stage.Closing w m) = IsLoaded g words pa (tag_size_of w.reach) w.tag
 loads_at g words pa s = Unit {0}
 
 abbrev pub loads_by : GeometryData → List ℕ → Stage → Option Task → Type 0
@@ -94,25 +102,24 @@ loads_by g words s o = Unit {0}
 abbrev pub cpu_loads : List ℕ → CpuData → Type 0
 cpu_loads words q = loads_by q.geometry words q.stage (task_of q)
 
--- access k of caller c was decided by this walk, and has its entry in the history
-abbrev pub DecidedBy : GeometryData → List Gpi → ℕ → ℕ → ℕ → Space → Found → List Entry → Type 0
-DecidedBy g map c k pa space w h =
-    IsDecided map g.setup.first (granule_bytes g.setup) c k (granule_number g.setup pa) space w.gpi
-    (permits_of w.gpi space) None w.reach w.lo h
+-- access k of caller c was decided by the map's GPI, which the walk that it made gives it, and has
+-- its entry in the history
+pub record DecidedBy (g : GeometryData) (map : List Gpi) (c k pa : ℕ) (space : Space) (w : Walk)
+    (m : Option OldWalk) (h : List Entry) : Type 0 where
+  pub gpi : Gpi
+  pub gives : walk_gpi g pa w ≡ Some gpi
+  pub decided : IsDecided map g.setup.first (granule_bytes g.setup) c k
+      (granule_number g.setup pa) space gpi (permits_of gpi space) m w.reach w.tag h
 
-abbrev pub walk_access : Space → Found → ℕ → Access
-walk_access space w hi = record {
-  allowed = permits_of w.gpi space;
-  gpi = w.gpi;
-  level = 1;
-  via = walked None w.reach w.lo hi;
-}
+-- its answer is known, with the stamps that it will have
+abbrev pub StampedBy : GeometryData → List Gpi → ℕ → ℕ → ℕ → Space → Access → List Entry → Type 0
+StampedBy g map c k pa space access h =
+    IsStamped map g.setup.first (granule_bytes g.setup) c k (granule_number g.setup pa) space
+    access h
 
 abbrev pub stamps_at : GeometryData → List Gpi → ℕ → ℕ → ℕ → Space → Stage → List Entry → Type 0
-stamps_at g map c k pa space (stage.Closing w) h = DecidedBy g map c k pa space w h
-stamps_at g map c k pa space (stage.Leaving w hi) h =
-    IsStamped map g.setup.first (granule_bytes g.setup) c k (granule_number g.setup pa) space
-    (walk_access space w hi) h
+stamps_at g map c k pa space (stage.Closing w m) h = DecidedBy g map c k pa space w m h
+stamps_at g map c k pa space (stage.Leaving access) h = StampedBy g map c k pa space access h
 stamps_at g map c k pa space s h = Unit {0}
 
 abbrev pub stamps_by : GeometryData → List Gpi → ℕ → ℕ → Stage → Option Task → List Entry → Type 0
@@ -127,8 +134,14 @@ cpu_stamps map h c q =
 
 -- ---- the walks that it keeps
 
+-- the one that an access under way has found or made
+abbrev pub walk_at : Stage → List Walk
+walk_at (stage.Trying w) = w ∷ []
+walk_at (stage.Closing w m) = w ∷ []
+walk_at s = []
+
 abbrev pub cpu_walks : CpuData → List Walk
-cpu_walks q = []
+cpu_walks q = q.cache.walks ++ walk_at q.stage
 
 -- ---- it takes no lock and changes no granule
 
