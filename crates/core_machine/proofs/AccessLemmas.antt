@@ -1,5 +1,5 @@
 -- The entries of accesses: each is allowed by its task and its answer, and is on no lock block.
-use Rattle.std.proofs.Common.{◌≡◌, ℕ, zero, suc, ◌+◌, ◌<◌, ◌∷◌, [], ◌/◌, List, Bool, true, false, Option, Some, None, length, take, refl, sym, ◌∙◌, subst, arith, inl, inr}
+use Rattle.std.proofs.Common.{◌≡◌, ℕ, zero, suc, ◌+◌, ◌<◌, ◌∷◌, [], ◌/◌, ap, List, Bool, true, false, Option, Some, None, length, take, refl, sym, ◌∙◌, subst, arith, inl, inr}
 use Rattle.std.specs.Prelude.{slice_get, MatchOption}
 use Rattle.std.specs.List.{All, list_any}
 use Rattle.std.proofs.lemmas.Bool.{cases_Bool}
@@ -145,6 +145,12 @@ look_entries g c k pa space (stage.Closing w m) = refl
 look_entries g c k pa space (stage.Leaving access) = refl
 look_entries g c k pa space s = refl
 
+-- one that isn't under way has made none
+pub no_entries : (g : GeometryData) (c k : ℕ) (s : Stage) → entries_at g c k s None ≡ []
+no_entries g c k (stage.Closing w m) = refl
+no_entries g c k (stage.Leaving access) = refl
+no_entries g c k s = refl
+
 -- its entries are the first ones of an answer that it can have, and allowed by it
 pub access_under_way : (g : GeometryData) (c k : ℕ) (s : Stage) (t : Task) → IsAccess g t → (a : Answer) × All (IsOwnEntry g c k t a) (entries_at g c k s (Some t))
     × (n : ℕ) × (entries_at g c k s (Some t) ≡ take n (call_entries (granule_bytes g.setup) c k t a))
@@ -180,10 +186,16 @@ decided_fails p g c k pa space None fails = refl
 decided_fails p g c k pa space (Some gpi) fails = rw (fails c k _ space gpi _) refl
 
 under_way_fails : (p : Entry → Bool) (g : GeometryData) (c k : ℕ) (s : Stage) (o : Option Task) → FailsLooks p → list_any p (entries_at g c k s o) ≡ false
-under_way_fails p g c k s None fails = refl
+under_way_fails p g c k s None fails = ap (list_any p) (no_entries g c k s)
 under_way_fails p g c k s (Some (task.Look pa space)) fails = subst (λ (es : List Entry). list_any p es ≡ false) (look_entries g c k pa space s) (decided_fails p g c k pa space (decided_gpi g pa s) fails)
+under_way_fails p g c k (stage.Closing w m) (Some (task.Delegate pa source)) fails = refl
+under_way_fails p g c k (stage.Leaving access) (Some (task.Delegate pa source)) fails = refl
 under_way_fails p g c k s (Some (task.Delegate pa source)) fails = refl
+under_way_fails p g c k (stage.Closing w m) (Some (task.Undelegate pa source)) fails = refl
+under_way_fails p g c k (stage.Leaving access) (Some (task.Undelegate pa source)) fails = refl
 under_way_fails p g c k s (Some (task.Undelegate pa source)) fails = refl
+under_way_fails p g c k (stage.Closing w m) (Some task.Unknown) fails = refl
+under_way_fails p g c k (stage.Leaving access) (Some task.Unknown) fails = refl
 under_way_fails p g c k s (Some task.Unknown) fails = refl
 
 pub own_fail : (p : Entry → Bool) (c : ℕ) (q : CpuData) (events : List CallEvent) → FailsLooks p → HasWalked c q events → list_any p (own_entries c q) ≡ false

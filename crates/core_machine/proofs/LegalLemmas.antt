@@ -21,7 +21,7 @@ use Rattle.processor.specs.InnerScript as cpus
 use Rattle.processor.specs.InnerProgress as progress
 use Rattle.processor.specs.InnerEntries.{entries_at as cpu_entries}
 use Rattle.processor.specs.InnerCpus.{task_of as cpu_task}
-use Rattle.core_machine.proofs.AccessLemmas.{access_there, access_under_way, accessed_each}
+use Rattle.core_machine.proofs.AccessLemmas.{access_there, access_under_way, accessed_each, no_entries}
 
 -- ---- an entry that its call allows
 
@@ -102,7 +102,7 @@ agent_known tasks answers c a events asks given agent stands =
 
 access_known : (g : GeometryData) (tasks : List (List Task)) (answers : List (List Answer)) (c k : ℕ) (s : progress.Stage) (o : Option Task) → MatchOption o (Unit {0}) (IsAccess g) → task_at tasks c k ≡ o → answer_at answers c k ≡ None
     → All (IsKnown g tasks answers) (cpu_entries g c k s o)
-access_known g tasks answers c k s None access asks given = All-nil (IsKnown g tasks answers)
+access_known g tasks answers c k s None access asks given = subst (All (IsKnown g tasks answers)) (sym (no_entries g c k s)) (All-nil (IsKnown g tasks answers))
 access_known g tasks answers c k s (Some t) access asks given =
     let own = access_under_way g c k s t access in
     All-weaker (IsOwnEntry g c k t own.0) (IsKnown g tasks answers)
@@ -226,7 +226,7 @@ agent_calls c a h events agent stands own = record {
 }
 
 access_calls : (g : GeometryData) (c k : ℕ) (s : progress.Stage) (o : Option Task) → MatchOption o (Unit {0}) (IsAccess g) → IsUnderWay (granule_bytes g.setup) c k o (cpu_entries g c k s o)
-access_calls g c k s None access = refl
+access_calls g c k s None access = no_entries g c k s
 access_calls g c k s (Some t) access = let own = access_under_way g c k s t access in (own.0, own.2, own.3)
 
 cpu_calls : (c : ℕ) (q : CpuData) (h : List Entry) → IsCpu q → entries_by c h ≡ own_of c (caller.Cpu q) → calls.AreCalls (granule_bytes q.geometry.setup) c q.tasks q.answers h

@@ -52,7 +52,7 @@ may_rest g (caller.Agent a) made none =
     let locking : a.stage ≡ stage.Locking = subst (IsStage a.geometry a.stage) (ended_of a made.1 none) made.1.stage in
     subst (λ (s : Stage). IsReadable s 0) (sym locking) tt
 may_rest g (caller.Cpu q) made none =
-    let starting : q.stage ≡ progress.Starting = subst (λ (o : Option Task). cpus.IsAt o q.stage) (cpu_ended_of q made.1 none) made.1.stage in
+    let starting : q.stage ≡ progress.Starting = subst (λ (o : Option Task). cpus.IsAt q.geometry o q.stage) (cpu_ended_of q made.1 none) made.1.stage in
     subst (λ (s : progress.Stage). cpus.IsReadable s 0) (sym starting) tt
 
 made_at : (first : List Gpi) (h : List Entry) (m : MachineData) (c : ℕ) (a : Caller) → InvariantFor first m h → c < length m.callers → a ≡ get_or m.callers c a → IsMade m.geometry a
