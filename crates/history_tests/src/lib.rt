@@ -4,4 +4,6 @@
 #[cfg(test)]
 mod entries;
 #[cfg(test)]
+mod rings;
+#[cfg(test)]
 mod stamps;
