@@ -6,6 +6,11 @@ use Rattle.std.specs.Option.{option_map}
 use Rattle.std.proofs.lemmas.Bool.{eqb-true}
 use Rattle.std.proofs.lemmas.Option.{slice_get-map, slice_get-get_or}
 use Rattle.std.proofs.lemmas.List.{map-set, length-set}
+use Rattle.gpi_values.specs.declared.gpi.Space.{Space}
+use Rattle.core_machine.specs.InnerAgentCaller.{unpassed_at, uncleaned_at}
+use Rattle.core_machine.specs.Lines.{seen_in}
+use Rattle.core_machine.proofs.MarkLemmas.{AgentMarks, agent_marks, agent_marks_same}
+use Rattle.core_machine.proofs.WordLemmas.{idle_line, is_line, lines_left}
 use Rattle.core_machine.proofs.Names.{Gpi, Size, Generations, SetupData, granule_bytes, size_bytes, space_bytes, words_of, canonical_word, word_gpi, l1_index, GeometryData, WordName, Generation, gen_place_of, blocks_in_region, l0_words, l1_index_of, l1_place_of, lock_number, Holder, Step, Whole, apart_by, AreWords, step_of, Task, Answer, Entry, caller_in, call_in, granule_in, State, start, after_entry, state_after, answered_entries, region_of, count_of, Stage, address_of, idle_answer, generation_in, granule_of_task, AgentData, IsAgent, task_of, goes_to, took_at, entries_at, Caller, IsCounted, generation_word, is_on_block, is_inside, open_at, SeesGeneration, SeesAt, is_due_at, is_around, coming_at, known_at, holds, open_by, is_due, IsMade, holder_by, HoldsIn, pairs_of, Scene, state_in, map_in, scene_after}
 use Rattle.core_machine.proofs.Names.gpi
 use Rattle.core_machine.proofs.Names.size
@@ -190,6 +195,7 @@ pub record Goes (s : Scene) (c : ℕ) (a : AgentData) (t : Task) (st next : Stag
   pub idle : is_idle n ≡ false
   pub rises : Rises a.geometry s.words after
   pub tracks : Tracks a.geometry s (λ y. unraised_at a.geometry y st (Some t)) (λ y. unraised_at a.geometry y next (Some t)) after (map_next s o) (s.history ++ list_of o)
+  pub marks : AgentMarks a.geometry s (λ p. unpassed_at a.geometry p st (Some t)) (λ p. unpassed_at a.geometry p next (Some t)) (uncleaned_at a.geometry st (Some t)) (uncleaned_at a.geometry next (Some t)) after (map_next s o) (s.history ++ list_of o)
   pub entry : IfSome o (IsOwn s c a t)
   pub words : AreWords a.geometry (map_next s o) (apart_by a.geometry.setup (holders_of (set s.callers c (caller.Agent (goes_to (at_stage a st) next))))) after
   pub opened : open_at a.geometry next (Some t) ≡ opened_with o (open_at a.geometry st (Some t))
@@ -274,6 +280,7 @@ goes_keeps {s = s} {c = c} {a = a} {t = t} {st = st} acting next n after o goes 
       stamps = tt;
       tracks = rw acting.under_way goes.tracks;
       walks = λ w has. absurd has;
+      marks = agent_marks g s c me x after (map_next s o) (s.history ++ list_of o) refl refl (rw acting.under_way goes.marks);
       entry = entry;
       tables = record { level1 = goes.words; blocks = blocks_next acting o goes.entry };
       opened = rw acting.under_way goes.opened;
@@ -304,6 +311,8 @@ pub record IsAlike (g : GeometryData) (c k : ℕ) (t : Task) (st next : Stage) :
   pub stays : is_inside next ≡ true
   pub opened : open_at g next (Some t) ≡ open_at g st (Some t)
   pub due : (y : Size) → is_due_at next y ≡ is_due_at st y
+  pub unpassed : (p : ℕ) → unpassed_at g p next (Some t) ≡ unpassed_at g p st (Some t)
+  pub uncleaned : uncleaned_at g next (Some t) ≡ uncleaned_at g st (Some t)
   pub front : entries_at g c k next (Some t) ≡ entries_at g c k st (Some t)
 
 -- where no generation is written, and the map and the changes that aren't raised stay
@@ -313,6 +322,14 @@ pub tracks_quietly : {s : Scene} {c : ℕ} {a : AgentData} {t : Task} {st : Stag
 tracks_quietly {s = s} {c = c} {a = a} {t = t} {st = st} acting next n after o writes plain map opened due =
     tracks_same a.geometry s _ _ _ _ _ map (λ y. rw (opened, due y) refl)
     (λ y k v has. unraised_left c acting.stands acting.at writes plain y k v (subst (λ (u : Option Task). In (k, v) (unraised_at a.geometry y st u)) (sym acting.under_way) has))
+
+-- where no line is written, and the map, what was seen and the lists stay
+pub marks_quietly : {s : Scene} {c : ℕ} {a : AgentData} {t : Task} {st : Stage} (acting : Acting s c a t st) (next : Stage) (n : Option WordName) (after : List ℕ) (o : Option Entry) → Writes a.geometry s.words n after → is_line n ≡ false
+    → ((k : ℕ) → map_next s o k ≡ map_in s k) → ((k : ℕ) (sp : Space) → seen_in k sp (s.history ++ list_of o) ≡ seen_in k sp s.history) → ((p : ℕ) → unpassed_at a.geometry p next (Some t) ≡ unpassed_at a.geometry p st (Some t))
+    → uncleaned_at a.geometry next (Some t) ≡ uncleaned_at a.geometry st (Some t)
+    → AgentMarks a.geometry s (λ p. unpassed_at a.geometry p st (Some t)) (λ p. unpassed_at a.geometry p next (Some t)) (uncleaned_at a.geometry st (Some t)) (uncleaned_at a.geometry next (Some t)) after (map_next s o) (s.history ++ list_of o)
+marks_quietly {s = s} {a = a} acting next n after o writes plain map seen unpassed uncleaned =
+    agent_marks_same a.geometry s _ _ _ _ _ _ _ map seen unpassed uncleaned (λ k sp. lines_left writes plain acting.stands.shape.geometry k sp)
 
 -- it writes no lock and no generation, and leaves the map
 pub goes_quietly : {s : Scene} {c : ℕ} {a : AgentData} {t : Task} {st : Stage} (acting : Acting s c a t st) (next : Stage) (n : Option WordName) (after : List ℕ) → IsAlike a.geometry c (length a.answers) t st next
@@ -331,6 +348,7 @@ goes_quietly {s = s} {c = c} {a = a} {t = t} {st = st} acting next n after alike
       idle = idle;
       rises = rises_left writes no_generation;
       tracks = tracks_quietly acting next n after None writes no_generation (λ k. refl) alike.opened alike.due;
+      marks = marks_quietly acting next n after None writes (idle_line n idle) (λ k. refl) (λ k sp. ap (seen_in k sp) (append-nil s.history)) alike.unpassed alike.uncleaned;
       entry = tt;
       words = words;
       opened = alike.opened;

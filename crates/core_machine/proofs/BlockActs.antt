@@ -97,7 +97,7 @@ split_holds {s = s} {c = c} {a = a} {t = t} z d k i acting low whole index =
     elim (cases_Bool (ltb (d.made + 1) d.words)) [
       | inl more ↦
           rw more
-          (split_goes acting (stage.Splitting z (advanced d) k) j v (record { inside = refl; stays = refl; opened = refl; due = λ y. refl; front = refl }) refl (rw more at made) within are
+          (split_goes acting (stage.Splitting z (advanced d) k) j v (record { inside = refl; stays = refl; opened = refl; due = λ y. refl; unpassed = λ p. refl; uncleaned = refl; front = refl }) refl (rw more at made) within are
           (record { known = known; gives = sees.gives; generations = generations }))
       | inr over ↦
           (let last : d.made + 1 ≡ n = omega (arith, low, whole, ltb-false _ _ over) in
@@ -109,7 +109,7 @@ split_holds {s = s} {c = c} {a = a} {t = t} z d k i acting low whole index =
           (holder_set_same hs c (record { granule = granule; step = Splitting z d.made }) (record { granule = granule; step = Splitting z (d.made + 1) }) (holder_at acting)))
           (alone_stays g.setup hs c granule (record { granule = granule; step = Splitting z (d.made + 1) }) alone) sees.known.0 are in
           rw over
-          (split_goes acting (stage.Changing (first_change t) kept) j v (record { inside = refl; stays = refl; opened = refl; due = λ y. refl; front = first_entries g c (length a.answers) t kept }) refl (rw over at made) within
+          (split_goes acting (stage.Changing (first_change t) kept) j v (record { inside = refl; stays = refl; opened = refl; due = λ y. refl; unpassed = λ p. refl; uncleaned = refl; front = first_entries g c (length a.answers) t kept }) refl (rw over at made) within
           (subst (λ (all : List Holder). AreWords g (map_in s) (apart_by g.setup all) after) (set_twice hs c _ _) ended)
           (record { known = word; gives = first_from t (map_in s granule) sees.gives; generations = generations })))
     ]
@@ -142,8 +142,8 @@ merged_coming None f k = refl
 merged_coming (Some next) f k = refl
 
 merged_alike : (g : GeometryData) (c n : ℕ) (t : Task) (f e : FuseData) (k : Generations) (o : Option Act) → IsAlike g c n t (stage.Merging f k) (merging_stage o e k)
-merged_alike g c n t f e k None = record { inside = refl; stays = refl; opened = refl; due = λ y. refl; front = refl }
-merged_alike g c n t f e k (Some next) = record { inside = refl; stays = refl; opened = refl; due = λ y. refl; front = refl }
+merged_alike g c n t f e k None = record { inside = refl; stays = refl; opened = refl; due = λ y. refl; unpassed = λ p. refl; uncleaned = refl; front = refl }
+merged_alike g c n t f e k (Some next) = record { inside = refl; stays = refl; opened = refl; due = λ y. refl; unpassed = λ p. refl; uncleaned = refl; front = refl }
 
 merged_sees : (g : GeometryData) (m : ℕ → Gpi) (words : List ℕ) (t : Task) (f : FuseData) (k : Generations) (o : Option Act) → Facts g.setup m (granule_of_task g t) (Merges f.gpi f.step) → SeesAt g m words t (merging_stage o f k)
 merged_sees g m words t f k None known = record { known = tt; gives = tt; generations = tt }

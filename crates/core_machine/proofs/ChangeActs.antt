@@ -31,6 +31,11 @@ use Rattle.delegate_ops.specs.Changing.{from_of}
 use Rattle.core_machine.specs.InnerWalks.{In, generation_around}
 use Rattle.core_machine.proofs.WalkLemmas.{in_pairs, one_pair}
 use Rattle.core_machine.proofs.CallerLemmas.{due_alone}
+use Rattle.gpi_values.specs.Values.{permits_of}
+use Rattle.history.specs.Entries.{changes_granule}
+use Rattle.std.proofs.lemmas.Bool.{eq-eqb, ne_eqb}
+use Rattle.core_machine.proofs.WordLemmas.{lines_left}
+use Rattle.core_machine.proofs.MarkLemmas.{seen_before, seen_changed, seen_stays}
 use Rattle.std.proofs.lemmas.Bool.{cases_eq}
 
 change_one : (word : ℕ) (b : Bool) → word + one b ≡ word + 0 + one b
@@ -110,6 +115,23 @@ change_holds {s = s} {c = c} {a = a} {t = t} i ch k acting index =
         pairs = λ y n v has.
             let pair = one_pair granule n (from_of t ch) v (in_pairs n v (not (comes_before y size.Two)) _ has).1 in
             inr (changed_numbered ch k acting e after y n v pair.0 pair.1 (generations_left writes refl));
+      };
+      marks = record {
+        changed = λ n. elim (cases_eq n granule) [
+          | inl here ↦
+              (let pair : In {A = ℕ × Gpi} (n, map_in s n) ((granule, from_of t ch) ∷ []) =
+              subst (λ (j : ℕ). In {A = ℕ × Gpi} (j, map_in s j) ((granule, from_of t ch) ∷ [])) (sym here) (subst (λ (u : Gpi). In {A = ℕ × Gpi} (granule, u) ((granule, from_of t ch) ∷ [])) sees.gives (inl refl)) in
+              inr (λ p. pair, pair))
+          | inr away ↦ inl (sym (other n away), λ sp before. seen_stays n sp s.history e (ne_eqb granule n (λ same. away (sym same))) before)
+        ];
+        passes = λ p n v has. absurd has;
+        cleans = λ n v has. absurd has;
+        comes = λ n sp resident. sym (lines_left writes refl stands.shape.geometry n sp) ∙ resident;
+        stays = λ n sp resident permits. lines_left writes refl stands.shape.geometry n sp ∙ resident;
+        looks = λ n sp permits seen. elim (cases_eq n granule) [
+          | inl here ↦ absurd (let changed : changes_granule n e ≡ true = eq-eqb granule n (sym here) in let both : true ≡ false = sym seen ∙ seen_changed n sp s.history e changed in cc)
+          | inr away ↦ (ap (λ (v : Gpi). permits_of v sp) (other n away) ∙ permits, seen_before n sp s.history e refl seen)
+        ];
       };
       entry = record { caller = refl; call = refl; granule = refl; allowed = (map_has acting ∙ ap Some (sym sees.gives), granule_closed acting refl refl) };
       words = tables_after acting next l after are;

@@ -10,6 +10,8 @@ pub mod AloneLemmas
 pub mod CountedLemmas
 pub mod StampLemmas
 pub mod WalkLemmas
+pub mod MarkLemmas
+pub mod LineLemmas
 pub mod StepLemmas
 pub mod ActLemmas
 pub mod LockActs

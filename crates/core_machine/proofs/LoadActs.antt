@@ -27,7 +27,9 @@ use Rattle.delegate_ops.specs.InnerAgents.{IsReadable, looked_stage, loaded_stag
 use Rattle.delegate_ops.proofs.AgentLemmas.{at_stage, no_look_at}
 use Rattle.delegate_ops.proofs.ScriptLemmas.{some_mapped}
 use Rattle.core_machine.proofs.EntryLemmas.{refused_is}
-use Rattle.core_machine.proofs.ActLemmas.{canonical_gives, reads_own, map_has, holders_of, holder_at, alone_there, tables_after, tables_stay, Acting, granule_closed, counts_of, seen_of, raised_same, tracks_quietly, goes_keeps, load_quietly}
+use Rattle.core_machine.proofs.ActLemmas.{canonical_gives, reads_own, map_has, holders_of, holder_at, alone_there, tables_after, tables_stay, Acting, granule_closed, counts_of, seen_of, raised_same, tracks_quietly, marks_quietly, goes_keeps, load_quietly}
+use Rattle.core_machine.specs.InnerAgentCaller.{unpassed_at, uncleaned_at}
+use Rattle.core_machine.proofs.MarkLemmas.{seen_more}
 use Rattle.core_machine.proofs.WordLemmas.{writes_none}
 use Rattle.core_machine.proofs.CountedLemmas.{worn_counted}
 use Rattle.core_machine.proofs.LockActs.{ActKeeps}
@@ -48,12 +50,12 @@ load_keeps s c a t st place readable holds = (readable, rw (set-get_or s.words p
 
 -- a closed granule that the map gives this GPI: the transition is refused with it
 refuse : {s : Scene} {c : ℕ} {a : AgentData} {t : Task} {st : Stage} (acting : Acting s c a t st) (given : Answer) → is_inside st ≡ true → step_of (known_at st) ≡ Whole
-    → IsMade a.geometry (caller.Agent (goes_to (at_stage a st) (stage.Releasing given))) → open_at a.geometry st (Some t) ≡ [] → ((y : Size) → is_due_at st y ≡ false)
+    → IsMade a.geometry (caller.Agent (goes_to (at_stage a st) (stage.Releasing given))) → open_at a.geometry st (Some t) ≡ [] → ((p : ℕ) → unpassed_at a.geometry p st (Some t) ≡ []) → uncleaned_at a.geometry st (Some t) ≡ [] → ((y : Size) → is_due_at st y ≡ false)
     → known_entries a.geometry c (length a.answers) t (Some given) ≡ entry.Refused c (length a.answers) (granule_of_task a.geometry t) (map_in s (granule_of_task a.geometry t)) ∷ []
     → entries_at a.geometry c (length a.answers) st (Some t) ≡ []
     → IsCounted a.geometry c (length a.answers) t given (s.history ++ entry.Refused c (length a.answers) (granule_of_task a.geometry t) (map_in s (granule_of_task a.geometry t)) ∷ [])
     → HoldsIn a.geometry (scene_after s c (caller.Agent (goes_to (at_stage a st) (stage.Releasing given))) s.words (known_entries a.geometry c (length a.answers) t (Some given)))
-refuse {s = s} {c = c} {a = a} {t = t} {st = st} acting given inside whole made open_none due_none entries front counted =
+refuse {s = s} {c = c} {a = a} {t = t} {st = st} acting given inside whole made open_none unpassed_none uncleaned_none due_none entries front counted =
     let e = entry.Refused c (length a.answers) (granule_of_task a.geometry t) (map_in s (granule_of_task a.geometry t)) in
     rw entries
     (goes_keeps acting (stage.Releasing given) None s.words (Some e)
@@ -67,6 +69,7 @@ refuse {s = s} {c = c} {a = a} {t = t} {st = st} acting given inside whole made 
       idle = refl;
       rises = rises_left (writes_none a.geometry s.words) refl;
       tracks = tracks_quietly acting (stage.Releasing given) None s.words (Some e) (writes_none a.geometry s.words) refl (λ k. refl) (sym open_none) (λ y. sym (due_none y));
+      marks = marks_quietly acting (stage.Releasing given) None s.words (Some e) (writes_none a.geometry s.words) refl (λ k. refl) (λ k sp. seen_more k sp s.history e) (λ p. sym (unpassed_none p)) (sym uncleaned_none);
       entry = record { caller = refl; call = refl; granule = refl; allowed = (map_has acting, granule_closed acting inside open_none) };
       words = tables_stay acting inside (stage.Releasing given) (sym whole) (writes_none a.geometry s.words) refl;
       opened = sym open_none;
@@ -102,7 +105,7 @@ looked_keeps : {s : Scene} {c : ℕ} {a : AgentData} {t : Task} (acting : Acting
     → IsMade a.geometry (caller.Agent (goes_to (at_stage a stage.Looking) (looked_stage o word)))
     → HoldsIn a.geometry (scene_after s c (caller.Agent (goes_to (at_stage a stage.Looking) (looked_stage o word))) s.words (known_entries a.geometry c (length a.answers) t o))
 looked_keeps {s = s} {a = a} {t = t} acting word None is fine made =
-    load_quietly acting (looked_stage None word) (record { inside = refl; stays = refl; opened = refl; due = λ y. refl; front = refl }) made
+    load_quietly acting (looked_stage None word) (record { inside = refl; stays = refl; opened = refl; due = λ y. refl; unpassed = λ p. refl; uncleaned = refl; front = refl }) made
     (tables_stay acting refl (looked_stage None word) refl (writes_none a.geometry s.words) refl)
     (record {
       known = is;
@@ -113,7 +116,7 @@ looked_keeps {s = s} {c = c} {a = a} {t = t} acting word (Some given) is refused
     let found = map_in s (granule_of_task a.geometry t) in
     let by = refused_is t (Some found) given refused in
     let perm : given ≡ answer.Perm found = by.3 ∙ ap answer.Perm (let same : by.0 ≡ found = (let both = by.1 in cc) in same) in
-    refuse acting given refl refl made refl (λ y. refl)
+    refuse acting given refl refl made refl (λ p. refl) refl (λ y. refl)
     (ap (λ (x : Answer). known_entries a.geometry c (length a.answers) t (Some x)) perm ∙ refused_with a.geometry c (length a.answers) t found acting.acts (no_look_at (at_stage a stage.Looking) t acting.is acting.under_way)) refl
     (subst (λ (x : Answer). IsCounted a.geometry c (length a.answers) t x (s.history ++ entry.Refused c (length a.answers) (granule_of_task a.geometry t) found ∷ [])) (sym perm) tt)
 
@@ -161,14 +164,14 @@ loaded_keeps {s = s} {c = c} {a = a} {t = t} acting k (Some (l1.Contig z v)) kno
     let g = a.geometry in
     let granule = granule_of_task g t in
     let next = loaded_stage g t (Some (l1.Contig z v)) k in
-    load_quietly acting next (record { inside = refl; stays = refl; opened = refl; due = λ y. refl; front = refl }) made
+    load_quietly acting next (record { inside = refl; stays = refl; opened = refl; due = λ y. refl; unpassed = λ p. refl; uncleaned = refl; front = refl }) made
     (tables_after acting next (map_in s) s.words (split_begin g (map_in s) (holders_of s.callers) c granule z s.words (holder_at acting) (alone_there acting refl) acting.stands.tables.level1))
     (record { known = splits g.setup (map_in s) granule k.word z v known read; gives = gives; generations = generations }) refl
 loaded_keeps {s = s} {c = c} {a = a} {t = t} acting k (Some (l1.Granules fields)) known gives generations read made =
     let g = a.geometry in
     let granule = granule_of_task g t in
     let next = stage.Changing (first_change t) k in
-    load_quietly acting next (record { inside = refl; stays = refl; opened = refl; due = λ y. refl; front = first_entries g c (length a.answers) t k }) made
+    load_quietly acting next (record { inside = refl; stays = refl; opened = refl; due = λ y. refl; unpassed = λ p. refl; uncleaned = refl; front = first_entries g c (length a.answers) t k }) made
     (tables_after acting next (map_in s) s.words
     (no_split g (map_in s) (holders_of s.callers) c granule s.words (holder_at acting) (alone_there acting refl) (looked_none g.setup (map_in s) granule k.word fields known read) acting.stands.tables.level1))
     (record { known = keeps g.setup (map_in s) granule k.word fields known read; gives = first_from t (map_in s granule) gives; generations = generations }) refl
@@ -185,7 +188,7 @@ all_read {s = s} {c = c} {a = a} {t = t} acting k (Some given) known gives gener
     counts_from g.setup.first (granule_bytes g.setup) (granule_of_task g t) s.history k.generations
     (λ y. let seen = counts_of acting refl k.generations y (generations y) in omega (arith, seen)) in
     let is = some_mapped (λ (z : Size). answer.Worn z (generation_in z k.generations)) _ given worn in
-    refuse acting given refl refl made refl (λ y. refl) (worn_with g c (length a.answers) t (map_in s (granule_of_task g t)) given is.0 (generation_in is.0 k.generations) gives (sym is.2)) refl
+    refuse acting given refl refl made refl (λ p. refl) refl (λ y. refl) (worn_with g c (length a.answers) t (map_in s (granule_of_task g t)) given is.0 (generation_in is.0 k.generations) gives (sym is.2)) refl
     (worn_counted g c (length a.answers) t (map_in s (granule_of_task g t)) k.generations given s.history counted worn)
 
 -- what is seen with the generation of this size loaded
@@ -210,13 +213,13 @@ read_at : {s : Scene} {c : ℕ} {a : AgentData} {t : Task} (z : Size) (k : Kept)
 read_at {s = s} {a = a} {t = t} size.Two k old acting is =
     let sees = seen_of acting in
     let next = stage.Reading size.ThirtyTwo (kept_read size.Two old k) in
-    load_quietly acting next (record { inside = refl; stays = refl; opened = refl; due = λ y. refl; front = refl }) (acting.made old)
+    load_quietly acting next (record { inside = refl; stays = refl; opened = refl; due = λ y. refl; unpassed = λ p. refl; uncleaned = refl; front = refl }) (acting.made old)
     (tables_stay acting refl next refl (writes_none a.geometry s.words) refl)
     (record { known = sees.known; gives = sees.gives; generations = two_seen a.geometry s.words t k old is }) refl
 read_at {s = s} {a = a} {t = t} size.ThirtyTwo k old acting is =
     let sees = seen_of acting in
     let next = stage.Reading size.FiveTwelve (kept_read size.ThirtyTwo old k) in
-    load_quietly acting next (record { inside = refl; stays = refl; opened = refl; due = λ y. refl; front = refl }) (acting.made old)
+    load_quietly acting next (record { inside = refl; stays = refl; opened = refl; due = λ y. refl; unpassed = λ p. refl; uncleaned = refl; front = refl }) (acting.made old)
     (tables_stay acting refl next refl (writes_none a.geometry s.words) refl)
     (record { known = sees.known; gives = sees.gives; generations = thirty_two_seen a.geometry s.words t k old sees.generations is }) refl
 read_at {s = s} {a = a} {t = t} size.FiveTwelve k old acting is =

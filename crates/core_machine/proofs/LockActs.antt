@@ -16,7 +16,8 @@ use Rattle.core_machine.proofs.ListLemmas.{one, get_append}
 use Rattle.core_machine.proofs.LockLemmas.{holder_bit, take_free, take_held, release_held}
 use Rattle.core_machine.proofs.WordLemmas.{writes_one}
 use Rattle.core_machine.proofs.StampLemmas.{no_loads, no_stamps}
-use Rattle.core_machine.specs.InnerCallers.{unraised_by}
+use Rattle.core_machine.specs.InnerCallers.{unraised_by, unpassed_by, uncleaned_by}
+use Rattle.core_machine.proofs.MarkLemmas.{no_touching, nothing_decided}
 use Rattle.core_machine.proofs.WalkLemmas.{no_walks}
 use Rattle.core_machine.proofs.StepLemmas.{aside_keeps, no_duty}
 use Rattle.core_machine.proofs.ToldLemmas.{answered_call, idle_is}
@@ -31,13 +32,13 @@ ActKeeps s c a t st next =
 
 -- a write of its lock word by a caller that goes on with nothing open and nothing due
 lock_keeps : {s : Scene} {c : ℕ} {a : AgentData} {t : Task} {st : Stage} (acting : Acting s c a t st) (v : ℕ) (x : Caller) → IsMade a.geometry x → number_by x ≡ None → open_by x ≡ open_by (caller.Agent (at_stage a st))
-    → ((y : Size) → unraised_by y x ≡ unraised_by y (caller.Agent (at_stage a st))) → ((y : Size) (region : ℕ) → is_due y region x ≡ is_due y region (caller.Agent (at_stage a st))) → ((m : ℕ → Gpi) (after : List ℕ) → Sees m after x)
+    → ((y : Size) → unraised_by y x ≡ unraised_by y (caller.Agent (at_stage a st))) → ((p : ℕ) → unpassed_by p x ≡ unpassed_by p (caller.Agent (at_stage a st))) → uncleaned_by x ≡ uncleaned_by (caller.Agent (at_stage a st)) → ((y : Size) (region : ℕ) → is_due y region x ≡ is_due y region (caller.Agent (at_stage a st))) → ((m : ℕ → Gpi) (after : List ℕ) → Sees m after x)
     → step_of (known_at st) ≡ Whole → (holder_by x).step ≡ Whole
     → ((m : ℕ) → m < 128 → lock_bit (set s.words (lock_of_task a t / 64) v) m + one (holds m (caller.Agent (at_stage a st))) ≡ lock_bit s.words m + one (holds m x))
     → ((m : ℕ) → holds m x ≡ true → IsAlone a.geometry.setup m c (call_of x) s.history)
     → ((k : ℕ) (u : Task) (given : Answer) → slice_get (caller_tasks x) k ≡ Some u → slice_get (known_answers x) k ≡ Some given → IsCounted a.geometry c k u given s.history)
     → own_of c x ≡ own_of c (caller.Agent (at_stage a st)) → HoldsIn a.geometry (scene_after s c x (set s.words (lock_of_task a t / 64) v) [])
-lock_keeps {s = s} {c = c} {a = a} {t = t} {st = st} acting v x made none opened unraised due sees before whole locks alone counted own =
+lock_keeps {s = s} {c = c} {a = a} {t = t} {st = st} acting v x made none opened unraised unpassed uncleaned due sees before whole locks alone counted own =
     aside_keeps {n = Some (Lock (lock_of_task a t / 64))} (record {
       stands = acting.stands;
       at = acting.at;
@@ -48,7 +49,12 @@ lock_keeps {s = s} {c = c} {a = a} {t = t} {st = st} acting v x made none opened
       duty = no_duty refl none refl;
       loads = no_loads _ x none;
       stamps = no_stamps s.first s.history c x none;
+      no_line = refl;
       unraised = unraised;
+      unpassed = unpassed;
+      uncleaned = uncleaned;
+      decided = λ d has. absurd (nothing_decided x d none has);
+      touching = no_touching x none;
       walks = λ w has. absurd (no_walks x w none has);
       before = before;
       whole = whole;
@@ -83,13 +89,13 @@ take_keeps {s = s} {c = c} {a = a} {t = t} acting =
       elim (cases_Bool (eqb (bit_and word (2 ^ (n % 64))) 0)) [
         | inl free ↦
             rw free
-            (lock_keeps acting (bit_or word (2 ^ (n % 64))) (caller.Agent (goes_to me stage.Looking)) (rw free at made) refl refl (λ y. refl) (λ y region. refl) (λ m after u under_way. record { known = tt; gives = tt; generations = tt }) refl refl
+            (lock_keeps acting (bit_or word (2 ^ (n % 64))) (caller.Agent (goes_to me stage.Looking)) (rw free at made) refl refl (λ y. refl) (λ p. refl) refl (λ y region. refl) (λ m after u under_way. record { known = tt; gives = tt; generations = tt }) refl refl
             (λ m below. rw acting.under_way (take_free s.words n m within (eqb-true _ _ free)))
             (λ m has. alone_starts a.geometry.setup m c (length a.answers) s.history (none_yet acting))
             (λ k u given asked answered. counted k (caller.Agent me) u given acting.at asked answered) refl)
         | inr held ↦
             rw held
-            (lock_keeps acting (bit_or word (2 ^ (n % 64))) (caller.Agent (waits_at me)) (rw held at made) refl refl (λ y. refl) (λ y region. refl) (λ m after u under_way. record { known = tt; gives = tt; generations = tt }) refl refl
+            (lock_keeps acting (bit_or word (2 ^ (n % 64))) (caller.Agent (waits_at me)) (rw held at made) refl refl (λ y. refl) (λ p. refl) refl (λ y region. refl) (λ m after u under_way. record { known = tt; gives = tt; generations = tt }) refl refl
             (λ m below. ap (λ (bit : ℕ). bit + 0) (take_held s.words n m within (λ free. absurd (let both = eq-eqb _ _ free in cc)))) (λ m has. absurd cc)
             (λ k u given asked answered. counted k (caller.Agent me) u given acting.at asked answered) refl)
       ],
@@ -122,7 +128,7 @@ release_keeps {s = s} {c = c} {a = a} {t = t} given acting =
     let has : holds n (caller.Agent me) ≡ true = rw acting.under_way (eq-eqb n n refl) in
     let set_bit : lock_bit s.words n ≡ 1 = holder_bit s.words s.callers c n (caller.Agent me) acting.at acting.stands.locks (low_of acting) has in (
       tt,
-      lock_keeps acting (bit_and (slice_index s.words (n / 64)) (bit_not w64 (2 ^ (n % 64)))) (caller.Agent (after_answer me given)) (acting.made 0) refl refl (λ y. refl) (λ y region. refl) (λ m after u under_way. record { known = tt; gives = tt; generations = tt }) refl refl
+      lock_keeps acting (bit_and (slice_index s.words (n / 64)) (bit_not w64 (2 ^ (n % 64)))) (caller.Agent (after_answer me given)) (acting.made 0) refl refl (λ y. refl) (λ p. refl) refl (λ y region. refl) (λ m after u under_way. record { known = tt; gives = tt; generations = tt }) refl refl
           (λ m below. rw acting.under_way (release_held s.words n m within set_bit))
           (λ m has_it. absurd cc)
           (λ k u found asked answered.

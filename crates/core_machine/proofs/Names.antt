@@ -3,7 +3,7 @@ pub use Rattle.bit_locks.specs.Locks.{lock_bit, lock_number, release_act, take_a
 pub use Rattle.core_machine.specs.Facts.{IsCounted, generation_word, is_on_block}
 pub use Rattle.core_machine.specs.InnerAgentCaller.{SeesAt, SeesGeneration, comes_before, coming_at, is_around, is_due_at, is_inside, known_at, open_at}
 pub use Rattle.core_machine.specs.InnerCallers.{IsMade, Sees, caller_answers, caller_next, caller_tasks, caller_took, duty_by, holder_by, holds, is_due, known_answers, number_by, open_by}
-pub use Rattle.core_machine.specs.InnerInvariant.{AreAllowed, DutyOfEach, HoldsIn, IsHistoryOf, NoLines, NumbersDiffer, pairs_of}
+pub use Rattle.core_machine.specs.InnerInvariant.{AreAllowed, DutyOfEach, HoldsIn, IsHistoryOf, NumbersDiffer, pairs_of}
 pub use Rattle.core_machine.specs.InnerMachine.{InvariantFor, MachineData, after_turn, after_turns, scene_of, trace_of}
 pub use Rattle.core_machine.specs.InnerPlay.{caller_of, callers_from, next_number, opening_of, played}
 pub use Rattle.core_machine.specs.InnerScene.{Scene, map_in, scene_after, state_in}

@@ -23,11 +23,15 @@ use Rattle.core_machine.proofs.LockLemmas.{locks_keep}
 use Rattle.core_machine.proofs.AddressLemmas.{lock_of}
 use Rattle.core_machine.proofs.CallerLemmas.{held_once, made_at_place, others_closed, placed_at}
 use Rattle.core_machine.proofs.OpenedLemmas.{opened_after, opened_stays, opened_changes}
-use Rattle.core_machine.proofs.WordLemmas.{Writes, IsApart, block_left, plain_apart, is_generation, is_level1, is_idle, is_line, idle_duty, idle_line, generations_left, words_left, lines_left}
-use Rattle.core_machine.specs.InnerCallers.{HasLoaded, HasOwnStamps, unraised_by, walks_by}
+use Rattle.core_machine.proofs.WordLemmas.{Writes, IsApart, block_left, plain_apart, is_generation, is_level1, is_idle, is_line, idle_duty, generations_left, words_left, lines_left}
+use Rattle.core_machine.specs.InnerCallers.{HasLoaded, HasOwnStamps, unraised_by, unpassed_by, uncleaned_by, decided_by, touching_by, walks_by}
 use Rattle.core_machine.specs.InnerWalks.{In, WalkHolds, generation_around}
 use Rattle.walk_cache.specs.declared.walk.Walk.{Walk}
 use Rattle.gpt_descriptors.proofs.PlaceLemmas.{generation_named}
+use Rattle.core_machine.proofs.MarkLemmas.{Marks, decisions_keep, lines_keep, marks_same, touches_keep}
+use Rattle.core_machine.specs.Lines.{seen_in}
+use Rattle.core_machine.specs.InnerCpuCaller.{Decision}
+use Rattle.core_machine.specs.InnerLines.{DecisionsHold, LinesHold, TouchesHold}
 use Rattle.core_machine.proofs.WalkLemmas.{Tracks, tracks_same, walk_stays, pairs_stay}
 use Rattle.core_machine.proofs.StampLemmas.{Rises, caller_loads_rise, own_stamps_grow}
 use Rattle.core_machine.proofs.ToldLemmas.{IsAdded, history_keeps}
@@ -64,9 +68,8 @@ opened_with (Some e) pairs = opened_after e pairs
 
 -- ---- duty words
 
--- A caller that steps keeps its number, writes no duty word but its own and no line, and its duty word is as it is to be.
+-- A caller that steps keeps its number, writes no duty word but its own, and its duty word is as it is to be.
 pub record MindsDuty (g : GeometryData) (me x : Caller) (n : Option WordName) (after : List ℕ) : Type 0 where
-  pub line : is_line n ≡ false
   pub number : number_by x ≡ number_by me
   pub own : (p : ℕ) → n ≡ Some (Duty p) → number_by me ≡ Some p
   pub word : (p : ℕ) → number_by x ≡ Some p → slice_index after (place_of g (Duty p)) ≡ duty_by x
@@ -74,7 +77,6 @@ pub record MindsDuty (g : GeometryData) (me x : Caller) (n : Option WordName) (a
 -- one that is no processor writes none
 pub no_duty : {g : GeometryData} {me x : Caller} {n : Option WordName} {after : List ℕ} → number_by me ≡ None → number_by x ≡ None → is_idle n ≡ false → MindsDuty g me x n after
 no_duty {n = n} before none idle = record {
-  line = idle_line n idle;
   number = none ∙ sym before;
   own = λ p same. absurd (idle_duty n p idle same);
   word = λ p is. absurd (let both : None ≡ Some p = sym none ∙ is in cc);
@@ -118,6 +120,7 @@ pub record Step (g : GeometryData) (s : Scene) (c : ℕ) (me x : Caller) (n : Op
   pub stamps : HasOwnStamps s.first (s.history ++ list_of o) c x
   pub tracks : Tracks g s (λ y. unraised_by y me) (λ y. unraised_by y x) after (map_next s o) (s.history ++ list_of o)
   pub walks : (w : Walk) → In w (walks_by x) → In w (walks_by me) ⊎ WalkHolds g after (map_next s o) (set s.callers c x) w
+  pub marks : Marks g s c me x after (map_next s o) (s.history ++ list_of o)
   pub entry : IfSome o (IsEntryOf g s c me x)
   pub tables : AreTables g after (set s.callers c x) (map_next s o)
   pub opened : open_by x ≡ opened_with o (open_by me)
@@ -288,7 +291,9 @@ module _ {g : GeometryData} {s : Scene} {c : ℕ} {me x : Caller} {n : Option Wo
         duties = λ d p y there. each_set (λ (d : ℕ) (y : Caller). (p : ℕ) → number_by y ≡ Some p → slice_index after (place_of g (Duty p)) ≡ duty_by y) s.callers c x step.duty.word others_on d y there p;
         others = others_off;
         numbers = numbers_keep s.callers c me x step.at step.duty.number stands.numbers;
-        lines = lines_left step.writes step.duty.line stands.lines;
+        decisions = subst (λ (st : State). DecisionsHold (map_at st.map) (h ++ list_of o) (set s.callers c x)) (sym same) (decisions_keep step.at step.marks stands.decisions);
+        lines = subst (λ (st : State). LinesHold g after (map_at st.map) (h ++ list_of o) (set s.callers c x)) (sym same) (lines_keep step.at step.marks stands.lines);
+        touches = subst (λ (st : State). TouchesHold g after (map_at st.map) (h ++ list_of o) (set s.callers c x)) (sym same) (touches_keep step.at step.marks stands.touches);
         least = λ y region within. omega (arith, stands.least y region within, step.rises y region within);
         loads = each_set (λ (d : ℕ) (y : Caller). HasLoaded after y) s.callers c x step.loads
             (λ d y apart there. caller_loads_rise g s.words after y (made_at_place g s d y stands there) step.rises (stands.loads d y there));
@@ -332,7 +337,12 @@ pub record Aside (g : GeometryData) (s : Scene) (c : ℕ) (me x : Caller) (n : O
   pub duty : MindsDuty g me x n after
   pub loads : HasLoaded after x
   pub stamps : HasOwnStamps s.first s.history c x
+  pub no_line : is_line n ≡ false
   pub unraised : (y : Size) → unraised_by y x ≡ unraised_by y me
+  pub unpassed : (p : ℕ) → unpassed_by p x ≡ unpassed_by p me
+  pub uncleaned : uncleaned_by x ≡ uncleaned_by me
+  pub decided : (d : Decision) → In d (decided_by x) → In d (decided_by me)
+  pub touching : touching_by x ≡ touching_by me
   pub walks : (w : Walk) → In w (walks_by x) → In w (walks_by me)
   pub before : (holder_by me).step ≡ Whole
   pub whole : (holder_by x).step ≡ Whole
@@ -358,6 +368,8 @@ aside_keeps {g = g} {s = s} {c = c} {x = x} {n = n} aside =
       stamps = own_stamps_grow s.first s.history [] c x aside.stamps;
       tracks = tracks_same g s _ _ _ _ _ (λ k. refl) aside.unraised (unraised_left c aside.stands aside.at aside.writes aside.no_generation);
       walks = λ w has. inl (aside.walks w has);
+      marks = marks_same g s c _ x _ _ _ (λ k. refl) (λ k sp. ap (seen_in k sp) (append-nil s.history)) aside.unpassed aside.uncleaned aside.duty.number aside.decided aside.touching
+          (λ k sp. lines_left aside.writes aside.no_line aside.stands.shape.geometry k sp);
       entry = tt;
       tables = tables_whole c x aside.stands aside.at aside.writes aside.no_level1 aside.before aside.whole;
       opened = aside.opened;

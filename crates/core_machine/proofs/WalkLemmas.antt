@@ -54,14 +54,14 @@ in_contains x (y ∷ xs) (inr more) = let there = in_contains x xs more in (suc 
 -- ---- callers
 
 -- a pair that some caller had is of the acting one or still there
-pub some_moves : (callers : List Caller) (c : ℕ) (me x : Caller) (by : Caller → List (ℕ × Gpi)) (pair : ℕ × Gpi) → slice_get callers c ≡ Some me → SomeHas callers by pair → SomeHas (set callers c x) by pair ⊎ In pair (by me)
+pub some_moves : {A : Type 0} (callers : List Caller) (c : ℕ) (me x : Caller) (by : Caller → List A) (pair : A) → slice_get callers c ≡ Some me → SomeHas callers by pair → SomeHas (set callers c x) by pair ⊎ In pair (by me)
 some_moves callers c me x by pair at some =
     elim (cases_eq some.number c) [
       | inl same ↦ inr (let here : some.caller ≡ me = (let both : Some some.caller ≡ Some me = sym some.at ∙ ap (slice_get callers) same ∙ at in cc) in subst (λ (y : Caller). In pair (by y)) here some.has)
       | inr away ↦ inl (record { number = some.number; caller = some.caller; at = get_set_other callers c some.number x away ∙ some.at; has = some.has })
     ]
 
-pub some_here : (callers : List Caller) (c : ℕ) (me x : Caller) (by : Caller → List (ℕ × Gpi)) (pair : ℕ × Gpi) → slice_get callers c ≡ Some me → In pair (by x) → SomeHas (set callers c x) by pair
+pub some_here : {A : Type 0} (callers : List Caller) (c : ℕ) (me x : Caller) (by : Caller → List A) (pair : A) → slice_get callers c ≡ Some me → In pair (by x) → SomeHas (set callers c x) by pair
 some_here callers c me x by pair at has = record { number = c; caller = x; at = get_set_here callers c me x at; has = has }
 
 -- what some caller has open is open

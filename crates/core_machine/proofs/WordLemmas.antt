@@ -4,7 +4,10 @@ use Rattle.std.proofs.Common.{◌≡◌, ◌≢◌, ℕ, ◌*◌, ◌/◌, ◌%�
 use Rattle.std.specs.Prelude.{slice_index}
 use Rattle.std.specs.Int.{bit_at}
 use Rattle.std.proofs.lemmas.List.{length-set, get_or-set_other}
-use Rattle.core_machine.proofs.Names.{Gpi, Size, size_bytes, space_bytes, GeometryData, IsGeometry, WordName, IsWordName, Lock, Generation, Duty, Level1, Line, NoLines, place_of, gen_place_of, blocks_in_region, lock_number, lock_bit, AreWords, generation_word}
+use Rattle.core_machine.proofs.Names.{Gpi, Size, size_bytes, space_bytes, GeometryData, IsGeometry, WordName, IsWordName, Lock, Generation, Duty, Level1, Line, place_of, l0_words, l1_index, gen_place_of, blocks_in_region, lock_number, lock_bit, AreWords, generation_word}
+use Rattle.gpi_values.specs.declared.gpi.Space.{Space}
+use Rattle.alias_clean.specs.Lines.{is_resident}
+use Rattle.core_machine.specs.Lines.{line_at, has_line}
 use Rattle.gpt_descriptors.proofs.PlaceLemmas.{place_distinct, generation_named}
 use Rattle.core_machine.proofs.AddressLemmas.{index_below, lock_by_region, lock_of}
 
@@ -39,7 +42,7 @@ abbrev pub is_level1 : Option WordName → Bool
 is_level1 (Some (Level1 i)) = true
 is_level1 n = false
 
--- lines, which no act writes yet
+-- lines
 abbrev pub is_line : Option WordName → Bool
 is_line (Some (Line i)) = true
 is_line n = false
@@ -77,8 +80,13 @@ module _ {g : GeometryData} {words : List ℕ} {n : Option WordName} {after : Li
       → generation_word g after y region ≡ generation_word g words y region
   generations_left unlike y region within = generation_left y region within (differs is_generation n (Some (Generation y region)) unlike refl)
 
-  pub lines_left : is_line n ≡ false → NoLines g words → NoLines g after
-  lines_left unlike lines = λ i low. writes.beside (Line i) low (differs is_line n (Some (Line i)) unlike refl) ∙ lines i low
+  lines_in : is_line n ≡ false → IsGeometry g → (w : ℕ) (o : Option ℕ) → l1_index g.setup (l0_words g) w ≡ o → (granule : ℕ) (s : Space) → line_at g after o granule s ≡ line_at g words o granule s
+  lines_in unlike geometry w None at granule s = refl
+  lines_in unlike geometry w (Some i) at granule s =
+      ap (λ (word : ℕ). is_resident word (granule % 16) s) (writes.beside (Line i) (index_below g w i geometry at) (differs is_line n (Some (Line i)) unlike refl))
+
+  pub lines_left : is_line n ≡ false → IsGeometry g → (granule : ℕ) (s : Space) → has_line g after granule s ≡ has_line g words granule s
+  lines_left unlike geometry granule s = lines_in unlike geometry (granule / 16) (l1_index g.setup (l0_words g) (granule / 16)) refl granule s
 
 -- ---- lock blocks
 

@@ -109,6 +109,22 @@ unraised_at g y s o = if is_due_at s y then open_at g s o else []
 abbrev pub agent_unraised : Size → AgentData → List (ℕ × Gpi)
 agent_unraised y a = unraised_at a.geometry y a.stage (task_of a)
 
+-- where it hasn't yet passed processor p in the barrier after that change
+abbrev pub unpassed_at : GeometryData → ℕ → Stage → Option Task → List (ℕ × Gpi)
+unpassed_at g p (stage.Raising c z k) (Some t) = (granule_of_task g t, from_of t c) ∷ []
+unpassed_at g p s o = []
+
+abbrev pub agent_unpassed : ℕ → AgentData → List (ℕ × Gpi)
+agent_unpassed p a = unpassed_at a.geometry p a.stage (task_of a)
+
+-- where it hasn't yet cleaned the lines of the former GPI
+abbrev pub uncleaned_at : GeometryData → Stage → Option Task → List (ℕ × Gpi)
+uncleaned_at g (stage.Raising c z k) (Some t) = (granule_of_task g t, from_of t c) ∷ []
+uncleaned_at g s o = []
+
+abbrev pub agent_uncleaned : AgentData → List (ℕ × Gpi)
+agent_uncleaned a = uncleaned_at a.geometry a.stage (task_of a)
+
 abbrev pub is_around : GeometryData → Size → ℕ → Option Task → Bool
 is_around g y region None = false
 is_around g y region (Some t) = region_of (granule_bytes g.setup) y (granule_of_task g t) == region

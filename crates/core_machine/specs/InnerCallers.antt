@@ -2,6 +2,7 @@
 -- agent is in InnerAgentCaller, what of a processor in InnerCpuCaller.
 use Rattle.std.specs.Prelude.{◌≡◌, ℕ, zero, suc, ◌<◌, Bool, false, List, [], length, Option, Some, None}
 use Rattle.gpi_values.specs.declared.gpi.Gpi.{Gpi}
+use Rattle.gpi_values.specs.declared.gpi.Space.{Space}
 use Rattle.gpt_descriptors.specs.declared.size.Size.{Size}
 use Rattle.gpt_descriptors.specs.Places.{GeometryData}
 use Rattle.shared_words.specs.declared.act.Act.{Act}
@@ -16,8 +17,8 @@ use Rattle.delegate_ops.specs.InnerAgents.{next_of, took_of, IsReadable}
 use Rattle.delegate_ops.specs.InnerRuns.{IsStoring}
 use Rattle.core_machine.specs.declared.caller.Caller.{Caller}
 use Rattle.core_machine.specs.declared.caller.Caller.TheVariants as caller
-use Rattle.core_machine.specs.InnerAgentCaller.{IsAgentOf, agent_made, agent_fresh, agent_left, agent_known, agent_makes, agent_own, agent_holds, agent_opens, agent_unraised, agent_owes, agent_holder, agent_sees}
-use Rattle.core_machine.specs.InnerCpuCaller.{IsCpuOf, cpu_made, cpu_fresh, cpu_may_take, cpu_duty, cpu_left, cpu_loads, cpu_stamps, cpu_next, cpu_took, cpu_known, cpu_makes, cpu_own, cpu_holds, cpu_opens, cpu_unraised, cpu_walks, cpu_owes, cpu_holder, cpu_sees}
+use Rattle.core_machine.specs.InnerAgentCaller.{IsAgentOf, agent_made, agent_fresh, agent_left, agent_known, agent_makes, agent_own, agent_holds, agent_opens, agent_unraised, agent_unpassed, agent_uncleaned, agent_owes, agent_holder, agent_sees}
+use Rattle.core_machine.specs.InnerCpuCaller.{IsCpuOf, cpu_made, cpu_fresh, cpu_may_take, cpu_duty, cpu_left, cpu_loads, cpu_stamps, cpu_next, cpu_took, cpu_known, cpu_makes, cpu_own, cpu_holds, cpu_opens, cpu_unraised, cpu_walks, Decision, cpu_decided, cpu_touching, cpu_owes, cpu_holder, cpu_sees}
 
 -- ---- how a caller was made
 
@@ -105,6 +106,15 @@ abbrev pub walks_by : Caller → List Walk
 walks_by (caller.Agent a) = []
 walks_by (caller.Cpu q) = cpu_walks q
 
+-- the accesses that it has decided and not ended, and the lines that it is about to touch
+abbrev pub decided_by : Caller → List Decision
+decided_by (caller.Agent a) = []
+decided_by (caller.Cpu q) = cpu_decided q
+
+abbrev pub touching_by : Caller → List (ℕ × Space)
+touching_by (caller.Agent a) = []
+touching_by (caller.Cpu q) = cpu_touching q
+
 -- ---- runs of stores
 
 -- the caller after its next n acts, which are stores
@@ -150,6 +160,16 @@ open_by (caller.Cpu q) = cpu_opens q
 abbrev pub unraised_by : Size → Caller → List (ℕ × Gpi)
 unraised_by y (caller.Agent a) = agent_unraised y a
 unraised_by y (caller.Cpu q) = cpu_unraised y q
+
+-- those that haven't passed processor p in the barrier after them, and those of which the lines of
+-- the former GPI aren't cleaned
+abbrev pub unpassed_by : ℕ → Caller → List (ℕ × Gpi)
+unpassed_by p (caller.Agent a) = agent_unpassed p a
+unpassed_by p (caller.Cpu q) = []
+
+abbrev pub uncleaned_by : Caller → List (ℕ × Gpi)
+uncleaned_by (caller.Agent a) = agent_uncleaned a
+uncleaned_by (caller.Cpu q) = []
 
 -- it has changed a granule of this region, and not yet raised the generation of this size
 abbrev pub is_due : Size → ℕ → Caller → Bool

@@ -1,5 +1,5 @@
 -- A processor as a caller: what each fact of the core reads of it.
-use Rattle.std.specs.Prelude.{◌≡◌, ℕ, ◌-◌, ◌≤◌, ◌<◌, Bool, true, false, List, [], ◌∷◌, ◌++◌, length, slice_index, Option, Some, None}
+use Rattle.std.specs.Prelude.{◌≡◌, ℕ, ◌-◌, ◌≤◌, ◌<◌, Bool, true, false, List, [], ◌∷◌, ◌++◌, length, slice_index, Option, Some, None, if◌then◌else◌}
 use Rattle.gpi_values.specs.declared.gpi.Gpi.{Gpi}
 use Rattle.gpt_descriptors.specs.declared.size.Size.{Size}
 use Rattle.gpi_values.specs.declared.gpi.Space.{Space}
@@ -142,6 +142,47 @@ walk_at s = []
 
 abbrev pub cpu_walks : CpuData → List Walk
 cpu_walks q = q.cache.walks ++ walk_at q.stage
+
+-- ---- what it has decided, and the line that it is about to touch
+
+-- an access that is decided and hasn't ended: its granule and space, and the GPI that decided it
+pub record Decision : Type 0 where
+  pub granule : ℕ
+  pub space : Space
+  pub gpi : Gpi
+
+abbrev pub decision_of : GeometryData → ℕ → Space → Option Gpi → List Decision
+decision_of g pa space None = []
+decision_of g pa space (Some gpi) =
+    record { granule = granule_number g.setup pa; space = space; gpi = gpi } ∷ []
+
+abbrev pub decided_at : GeometryData → ℕ → Space → Stage → List Decision
+decided_at g pa space (stage.Closing w m) = decision_of g pa space (walk_gpi g pa w)
+decided_at g pa space (stage.Leaving a) = decision_of g pa space (Some a.gpi)
+decided_at g pa space s = []
+
+abbrev pub decided_under : GeometryData → Option Task → Stage → List Decision
+decided_under g (Some (task.Look pa space)) s = decided_at g pa space s
+decided_under g o s = []
+
+abbrev pub cpu_decided : CpuData → List Decision
+cpu_decided q = decided_under q.geometry (task_of q) q.stage
+
+abbrev pub touch_by : GeometryData → ℕ → Space → Option Gpi → List (ℕ × Space)
+touch_by g pa space None = []
+touch_by g pa space (Some gpi) =
+    if permits_of gpi space then (granule_number g.setup pa, space) ∷ [] else []
+
+abbrev pub touching_at : GeometryData → ℕ → Space → Stage → List (ℕ × Space)
+touching_at g pa space (stage.Closing w m) = touch_by g pa space (walk_gpi g pa w)
+touching_at g pa space s = []
+
+abbrev pub touching_under : GeometryData → Option Task → Stage → List (ℕ × Space)
+touching_under g (Some (task.Look pa space)) s = touching_at g pa space s
+touching_under g o s = []
+
+abbrev pub cpu_touching : CpuData → List (ℕ × Space)
+cpu_touching q = touching_under q.geometry (task_of q) q.stage
 
 -- ---- it takes no lock and changes no granule
 

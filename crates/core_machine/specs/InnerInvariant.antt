@@ -21,6 +21,7 @@ use Rattle.core_machine.specs.Facts.{AreUndisturbed, IsCounted, generation_word,
 use Rattle.core_machine.specs.InnerCallers.{IsMade, call_of, caller_tasks, known_answers, own_of, holds, open_by, is_due, holder_by, number_by, duty_by, walks_by, HasLoaded, HasOwnStamps, Sees}
 use Rattle.walk_cache.specs.declared.walk.Walk.{Walk}
 use Rattle.core_machine.specs.InnerWalks.{In, WalkHolds, PairsNumbered}
+use Rattle.core_machine.specs.InnerLines.{DecisionsHold, LinesHold, TouchesHold}
 use Rattle.core_machine.specs.InnerScene.{Scene, state_in, map_in}
 
 pub record HasShape (g : GeometryData) (s : Scene) : Type 0 where
@@ -89,12 +90,6 @@ NumbersDiffer callers =
     → slice_get callers c ≡ Some caller → slice_get callers d ≡ Some other
     → number_by caller ≡ Some p → number_by other ≡ Some p → c ≡ d
 
--- ---- lines
-
--- lines aren't used yet
-abbrev pub NoLines : GeometryData → List ℕ → Type 0
-NoLines g words = (i : ℕ) → i < l1_words g → slice_index words (place_of g (Line i)) ≡ 0
-
 -- ---- generations
 
 -- Each generation is at least the first one.
@@ -158,7 +153,9 @@ pub record HoldsIn (g : GeometryData) (s : Scene) : Type 0 where
   pub duties : DutyOfEach g s.words s.callers
   pub others : OthersAreOff g s.words s.callers
   pub numbers : NumbersDiffer s.callers
-  pub lines : NoLines g s.words
+  pub decisions : DecisionsHold (map_in s) s.history s.callers
+  pub lines : LinesHold g s.words (map_in s) s.history s.callers
+  pub touches : TouchesHold g s.words (map_in s) s.history s.callers
   pub least : LeastGenerations g s.words
   pub loads : (c : ℕ) (caller : Caller) → slice_get s.callers c ≡ Some caller
       → HasLoaded s.words caller

@@ -22,13 +22,13 @@ abbrev pub In : {A : Type 0} → A → List A → Type 0
 In x [] = ⊥
 In x (y ∷ ys) = (y ≡ x) ⊎ In x ys
 
--- some caller has this pair in its list
-pub record SomeHas (callers : List Caller) (by : Caller → List (ℕ × Gpi)) (pair : ℕ × Gpi)
+-- some caller has it in its list
+pub record SomeHas {A : Type 0} (callers : List Caller) (by : Caller → List A) (item : A)
     : Type 0 where
   pub number : ℕ
   pub caller : Caller
   pub at : slice_get callers number ≡ Some caller
-  pub has : In pair (by caller)
+  pub has : In item (by caller)
 
 -- ---- walks
 

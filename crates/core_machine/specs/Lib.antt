@@ -6,7 +6,9 @@ pub mod InnerAgentCaller
 pub mod InnerCpuCaller
 pub mod InnerCallers
 pub mod InnerScene
+pub mod Lines
 pub mod InnerWalks
+pub mod InnerLines
 pub mod InnerInvariant
 pub mod InnerLaw
 pub mod InnerCallerLaws
