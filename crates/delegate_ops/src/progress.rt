@@ -435,15 +435,11 @@ impl Progress {
             (old_in geometry.now task places.now self.old (W.words words.old)) }
     {
         match self.phase {
-            Phase::Locking => {
-                let old = words.apply(take(places.lock));
-                self.locked(is_held(places.lock, old));
-            }
-            Phase::Waiting => {
-                let old = words.apply(take(places.lock));
-                let again = is_held(places.lock, old);
-                self.locked(again);
-                if again {
+            Phase::Locking | Phase::Waiting => {
+                let waited = self.waits();
+                let held = is_held(places.lock, words.apply(take(places.lock)));
+                self.locked(held);
+                if waited && held {
                     return Turned::Still;
                 }
             }
@@ -475,17 +471,12 @@ impl Progress {
                 words.apply(Act::Store(places.generation(size), value));
                 self.raised(geometry, task, change, size, value);
             }
-            Phase::Passing(change) => {
+            Phase::Passing(change) | Phase::Blocked(change) => {
+                let waited = self.waits();
                 if let Some(load) = self.barrier.next(geometry) {
                     let duty = words.apply(load);
                     self.found(geometry, task, change, duty);
-                }
-            }
-            Phase::Blocked(change) => {
-                if let Some(load) = self.barrier.next(geometry) {
-                    let duty = words.apply(load);
-                    self.found(geometry, task, change, duty);
-                    if duty != 0 {
+                    if waited && duty != 0 {
                         return Turned::Still;
                     }
                 }
