@@ -603,22 +603,22 @@ const DELEGATE_TO_BARRIER: [(Act, u64); 10] = [
 const UNDELEGATE_TO_BARRIER: [(Act, u64); 9] = [
     (Act::Or(0, 2), 0),
     (Act::Load(10961), 0x9999_9999_9999_b999),
-    (Act::Load(276), 1),
-    (Act::Load(2067), 1),
-    (Act::Load(2179), 1),
+    (Act::Load(276), 0),
+    (Act::Load(2067), 0),
+    (Act::Load(2179), 0),
     (Act::Store(10961, 0x9999_9999_9999_0999), 0),
+    (Act::Store(276, 1), 0),
+    (Act::Store(2067, 1), 0),
+    (Act::Store(2179, 1), 0),
+];
+
+const UNDELEGATE_TO_NEXT_BARRIER: [(Act, u64); 6] = [
+    (SECOND_CLEAN_REALM, 0xffff_ffff_ffff_ffff),
+    (SECOND_CLEAN_NON_SECURE, 0xffff_ffff_ffff_7fff),
+    (Act::Store(10961, NON_SECURE), 0),
     (Act::Store(276, 2), 0),
     (Act::Store(2067, 2), 0),
     (Act::Store(2179, 2), 0),
-];
-
-const UNDELEGATE_BETWEEN_BARRIERS: [(Act, u64); 6] = [
-    (SECOND_CLEAN_REALM, 0xffff_ffff_ffff_5fff),
-    (SECOND_CLEAN_NON_SECURE, 0xffff_ffff_ffff_5fff),
-    (Act::Store(10961, NON_SECURE), 0),
-    (Act::Store(276, 3), 0),
-    (Act::Store(2067, 3), 0),
-    (Act::Store(2179, 3), 0),
 ];
 
 /// The duty words that are set before each load of a barrier over two processors, its place, what
@@ -632,11 +632,8 @@ const TWO_PROCESSORS: [([(usize, u64); 2], usize, u64, bool); 5] = [
 ];
 
 #[test]
-fn a_barrier_waits_for_each_access_under_way(rt: HostRuntime) -> Result<(), Fail> {
-    let tasks = vec![in rt.alloc();
-        Task::Delegate(INSIDE, Source::Realm),
-        Task::Undelegate(INSIDE, Source::Realm),
-    ]?;
+fn a_delegate_waits_for_each_access_under_way(rt: HostRuntime) -> Result<(), Fail> {
+    let tasks = vec![in rt.alloc(); Task::Delegate(INSIDE, Source::Realm)]?;
     let geometry = with_processors(2, MaxBlock::Zero)?;
     let mut words = started_with(rt.alloc(), 2, NON_SECURE)?;
     set(&mut words, [(27345, 0xffff_ffff_ffff_ffff)].as_slice());
@@ -653,26 +650,43 @@ fn a_barrier_waits_for_each_access_under_way(rt: HostRuntime) -> Result<(), Fail
         (SECOND_CLEAN_NON_SECURE, 0xffff_ffff_ffff_7fff),
         (Act::And(0, !2), 2),
     ] {
-        assert_eq!(rt; agent.left(), 2);
         assert_eq!(rt; step(&mut agent, &mut words), Some((act, old)));
         assert!(rt; !agent.waits());
     }
+    assert_eq!(rt; agent.next(), None);
+    assert_eq!(rt;
+        words.words().get(27345).copied(),
+        Some(0xffff_ffff_ffff_5fff)
+    );
+    Ok(())
+}
 
-    for (act, old) in UNDELEGATE_TO_BARRIER {
-        assert_eq!(rt; step(&mut agent, &mut words), Some((act, old)));
-    }
-    for (duties, place, old, waits) in TWO_PROCESSORS {
-        set(&mut words, duties.as_slice());
-        assert_eq!(rt; step(&mut agent, &mut words), Some((Act::Load(place), old)));
-        assert_eq!(rt; agent.waits(), waits);
-    }
-    for (act, old) in UNDELEGATE_BETWEEN_BARRIERS {
-        assert_eq!(rt; step(&mut agent, &mut words), Some((act, old)));
-    }
-    for (duties, place, old, waits) in TWO_PROCESSORS {
-        set(&mut words, duties.as_slice());
-        assert_eq!(rt; step(&mut agent, &mut words), Some((Act::Load(place), old)));
-        assert_eq!(rt; agent.waits(), waits);
+#[test]
+fn an_undelegate_waits_after_both_changes(rt: HostRuntime) -> Result<(), Fail> {
+    let tasks = vec![in rt.alloc(); Task::Undelegate(INSIDE, Source::Realm)]?;
+    let geometry = with_processors(2, MaxBlock::Zero)?;
+    let mut words = started_with(rt.alloc(), 2, NON_SECURE)?;
+    set(
+        &mut words,
+        [
+            (10961, 0x9999_9999_9999_b999),
+            (27345, 0xffff_ffff_ffff_ffff),
+        ]
+        .as_slice(),
+    );
+    let mut agent = Agent::new(rt.alloc(), geometry, tasks)?;
+    for acts in [
+        UNDELEGATE_TO_BARRIER.as_slice(),
+        UNDELEGATE_TO_NEXT_BARRIER.as_slice(),
+    ] {
+        for (act, old) in acts {
+            assert_eq!(rt; step(&mut agent, &mut words), Some((*act, *old)));
+        }
+        for (duties, place, old, waits) in TWO_PROCESSORS {
+            set(&mut words, duties.as_slice());
+            assert_eq!(rt; step(&mut agent, &mut words), Some((Act::Load(place), old)));
+            assert_eq!(rt; agent.waits(), waits);
+        }
     }
     // Nothing is cleaned after the second barrier.
     assert_eq!(rt; step(&mut agent, &mut words), Some((Act::And(0, !2), 2)));
