@@ -16,7 +16,7 @@ use Rattle.gpt_descriptors.specs.declared.entry.L1Entry.{L1Entry}
 use Rattle.gpt_descriptors.specs.declared.entry.L1Entry.TheVariants as l1
 use Rattle.gpt_descriptors.specs.Entries.{l1_entry}
 use Rattle.gpt_descriptors.specs.Fields.{granules_of}
-use Rattle.gpt_descriptors.specs.Places.{GeometryData, l1_index_of, l1_place_of}
+use Rattle.gpt_descriptors.specs.Places.{GeometryData, l1_place_of}
 use Rattle.gpt_descriptors.proofs.CanonicalLemmas.{words_some}
 use Rattle.shared_words.specs.declared.act.Act.{Act}
 use Rattle.shared_words.specs.Events.{Event}
@@ -41,7 +41,7 @@ use Rattle.delegate_ops.specs.declared.stage.Line.TheVariants as line
 use Rattle.delegate_ops.specs.declared.stage.Kept.{Kept}
 use Rattle.delegate_ops.specs.InnerStages as stage
 use Rattle.delegate_ops.specs.Deciding.{address_of, idle_answer, worn_answer}
-use Rattle.delegate_ops.specs.Changing.{first_change, changed_word, own_space, target_space, space_of_line, splitting_of, split_stores, word_split}
+use Rattle.delegate_ops.specs.Changing.{first_change, own_space, target_space, space_of_line, splitting_of, split_stores, word_split}
 use Rattle.delegate_ops.specs.InnerAgents.{IsChangeOf, IsCleaned, number_of, first_stage, loaded_stage, read_all, split_stage, merging_stage, merged_stage, last_stage, passed_stage, passing_stage, cleaned_stage}
 use Rattle.delegate_ops.specs.Script.{Reads, Part, Makes, Passes, IsBusy, ArePassed, AreParts, plain_part, cleaned, cleans, Changes, Merges, Decides, transition_parts, all_parts, kept_split, last_word, last_generations}
 use Rattle.delegate_ops.specs.InnerScript.{IsChanging, IsPassing, IsMergingAt, IsPrefix, change_on, parts_after, generations_after, word_after_change}

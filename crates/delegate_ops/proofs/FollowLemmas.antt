@@ -215,7 +215,7 @@ passing_goes g c n t place d to_come last word events acts at =
     record {
       rest = (e ∷ more.0) ++ goes.rest;
       given = goes.given;
-      decided = subst (Decides g c n t goes.given) (append_assoc events (e ∷ more.0) goes.rest) goes.decided;
+      decided = subst (Decides g c n t goes.given) {x = (events ++ e ∷ more.0) ++ goes.rest} (append_assoc events (e ∷ more.0) goes.rest) goes.decided;
     }
 
 merging_goes : (g : GeometryData) (c n : ℕ) (t : Task) (f : FuseData) (last : Generations) (events : List CallEvent) → IsMergingAt g c n t f last events → GoesOn g c n t events

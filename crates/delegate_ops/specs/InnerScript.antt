@@ -25,7 +25,7 @@ use Rattle.delegate_ops.specs.InnerStages.{Stage}
 use Rattle.delegate_ops.specs.InnerStages as stage
 use Rattle.delegate_ops.specs.Deciding.{address_of, looked_answer}
 use Rattle.delegate_ops.specs.Changing.{changed_word, raised_at, raised, target_space, former_space}
-use Rattle.delegate_ops.specs.Script.{IsWait, TakesLock, Looks, Part, Makes, Passes, IsBusy, ArePassed, plain_part, cleans, Changes, Decides, AreCallEvents, last_raise, raises, change_and_raises, kept_after, kept_split, transition_parts, all_parts, last_word, last_generations}
+use Rattle.delegate_ops.specs.Script.{IsWait, TakesLock, Looks, Part, Passes, IsBusy, ArePassed, plain_part, cleans, Changes, Decides, AreCallEvents, last_raise, raises, change_and_raises, kept_after, kept_split, transition_parts, all_parts, last_word, last_generations}
 use Rattle.delegate_ops.specs.InnerAgents.{AgentData, task_of, IsBarrierOf}
 
 -- the loads of generations before that of this size

@@ -20,7 +20,7 @@ ghost use Rattle.delegate_ops.specs.InnerRuns.{IsStoring, MakesRun};
 ghost use Rattle.delegate_ops.specs.declared.places.Places.{Places as ThePlaces};
 ghost use Rattle.delegate_ops.specs.InnerTransition.{IsTransition, act_by, answer_by, after_by};
 ghost use Rattle.delegate_ops.specs.InnerTransition.{next_in, old_in, at_progress, turned_by};
-ghost use Rattle.delegate_ops.specs.InnerTransition.{GoesTo};
+ghost use Rattle.delegate_ops.specs.InnerTransition.{GoesTo, IsWriting};
 
 use crate::blocks::{merging_of, splitting_of};
 use crate::changing::{changed_word, first_change, space_of_line, target_space};
@@ -414,6 +414,39 @@ impl Progress {
         }
     }
 
+    /// The next act, made on the words, where it writes a word of the granule or a generation.
+    fn write<W: Words>(&mut self, geometry: &Geometry, places: &Places, task: Task, words: &mut W)
+        requires transition { IsTransition geometry.now (at_progress task places.now self.old) }
+        requires place { MayBeMade (next_in geometry.now task places.now self.old)
+            (W.words words.old) }
+        requires writes { IsWriting (stage_of self.old) }
+        ensures words { W.words words.new
+            ≡ words_after (next_in geometry.now task places.now self.old) (W.words words.old) }
+        ensures after { GoesTo self.new (stage_after geometry.now task (stage_of self.old) 0) }
+    {
+        match self.phase {
+            Phase::Preparing => {
+                words.apply(places.clean(target_space(task)));
+                self.phase = Phase::Changing(Change::Last);
+            }
+            Phase::Changing(change) => {
+                let word = changed_word(task, change, places.field, self.kept.word);
+                words.apply(Act::Store(places.word, word));
+                self.changed(change, word);
+            }
+            Phase::Raising(change, size) => {
+                let value = self.kept.generations.get(size) + 1;
+                words.apply(Act::Store(places.generation(size), value));
+                self.raised(geometry, task, change, size, value);
+            }
+            Phase::Cleaning(change, line) => {
+                words.apply(places.clean(space_of_line(task, change, line)));
+                self.cleaned(geometry, task, change, line);
+            }
+            _ => {}
+        }
+    }
+
     /// The next act, made on the words, with what comes of it.
     pub fn turn<W: Words>(
         &mut self,
@@ -423,7 +456,8 @@ impl Progress {
         words: &mut W,
     ) -> Turned
         requires transition { IsTransition geometry.now (at_progress task places.now self.old) }
-        requires place { MayBeMade (next_in geometry.now task places.now self.old) (W.words words.old) }
+        requires place { MayBeMade (next_in geometry.now task places.now self.old)
+            (W.words words.old) }
         requires readable { IsReadable (stage_of self.old)
             (old_in geometry.now task places.now self.old (W.words words.old)) }
         ensures words { W.words words.new
@@ -457,19 +491,8 @@ impl Progress {
                     self.split(task, size);
                 }
             }
-            Phase::Preparing => {
-                words.apply(places.clean(target_space(task)));
-                self.phase = Phase::Changing(Change::Last);
-            }
-            Phase::Changing(change) => {
-                let word = changed_word(task, change, places.field, self.kept.word);
-                words.apply(Act::Store(places.word, word));
-                self.changed(change, word);
-            }
-            Phase::Raising(change, size) => {
-                let value = self.kept.generations.get(size) + 1;
-                words.apply(Act::Store(places.generation(size), value));
-                self.raised(geometry, task, change, size, value);
+            Phase::Preparing | Phase::Changing(_) | Phase::Raising(..) | Phase::Cleaning(..) => {
+                self.write(geometry, places, task, words);
             }
             Phase::Passing(change) | Phase::Blocked(change) => {
                 let waited = self.waits();
@@ -480,10 +503,6 @@ impl Progress {
                         return Turned::Still;
                     }
                 }
-            }
-            Phase::Cleaning(change, line) => {
-                words.apply(places.clean(space_of_line(task, change, line)));
-                self.cleaned(geometry, task, change, line);
             }
             Phase::Merging => {
                 if let Some(act) = self.merging.next() {
