@@ -185,7 +185,7 @@ look_entries c d q pa space (stage.Loading size.FiveTwelve k m) kept last old he
 look_entries c d q pa space (stage.Walking k m) kept last old here is part = rw (is, here) (loaded_entry q.geometry c (length q.answers) pa space k m (walk_of pa k old) _)
 look_entries c d q pa space (stage.Closing w m) kept last old here is part =
     rw (is, here) (closed_entry q.geometry c (length q.answers) pa space w m (walk_gpi q.geometry pa w) (walked m w.reach w.tag old) _ refl)
-look_entries c d q pa space (stage.Touching a) kept last old here is part = rw is (no_entry _)
+look_entries c d q pa space (stage.Touching a) kept last old here is part = rw (is, here) (no_entry _)
 look_entries c d q pa space (stage.Leaving a) kept last old here is part =
     rw is (answered_entry c q pa space a here (decided_entry q.geometry q.number c d (length q.answers) pa space kept a q.cache.walks part.deciding part.decided))
 

@@ -138,10 +138,7 @@ impl Cpu {
         ensures there { is_some result ≡ not (has_ended self.now) }
     {
         match self.task()? {
-            Task::Look(pa, space) => {
-                self.progress
-                    .next(&self.geometry, self.number, pa, space)
-            }
+            Task::Look(pa, space) => { self.progress.next(&self.geometry, self.number, pa, space) }
             _ => None,
         }
     }
