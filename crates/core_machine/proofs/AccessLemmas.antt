@@ -34,6 +34,7 @@ use Rattle.processor.specs.Script.{AreCallEvents, Decides, IsCall, IsLook}
 use Rattle.core_machine.specs.Facts.{IsAccessAnswer, is_walked}
 use Rattle.core_machine.proofs.AddressLemmas.{granule_within}
 use Rattle.core_machine.proofs.CpuActs.{answers_seen}
+use Rattle.core_machine.proofs.DecidedLemmas.{IsTableAccess, decided_access}
 use Rattle.core_machine.proofs.EntryLemmas.{IsOwnEntry}
 use Rattle.core_machine.proofs.ListLemmas.{all_one}
 
@@ -48,23 +49,6 @@ access_looks g (task.Look pa space) access = refl
 access_looks g t access = absurd access
 
 -- ---- their answers
-
--- an access at an L1 table is answered by the GPI that decided it
-pub record IsTableAccess (space : Space) (given : Access) : Type 0 where
-  pub allowed : given.allowed ≡ permits_of given.gpi space
-  pub level : given.level ≡ 1
-  pub walked : is_still given.via ≡ false
-
-walked_way : (m : Option OldWalk) (r : Reach) (lo hi : ℕ) → is_still (walked m r lo hi) ≡ false
-walked_way None r lo hi = refl
-walked_way (Some old) r lo hi = refl
-
-table_one : (space : Space) (gpi : Gpi) (v : Via) (given : Access) → is_still v ≡ false → given ≡ table_access space gpi v → IsTableAccess space given
-table_one space gpi v given walked is = subst (IsTableAccess space) (sym is) (record { allowed = refl; level = refl; walked = walked })
-
-pub decided_access : (g : GeometryData) (p c n pa : ℕ) (space : Space) (kept : List Walk) (given : Access) (later : List Walk) (events : List CallEvent) → Decides g p c n pa space kept given later events → IsTableAccess space given
-decided_access g p c n pa space kept given later events (inl hits) = table_one space hits.0.gpi (via.Hit hits.0.walk.reach hits.0.walk.tag) given refl hits.0.is
-decided_access g p c n pa space kept given later events (inr walks) = table_one space walks.gpi _ given (walked_way walks.missed walks.walk.reach walks.walk.tag walks.hi) walks.is
 
 look_answer : (g : GeometryData) (p c n pa : ℕ) (space : Space) (o : Option Gpi) (kept : List Walk) (given : Answer) (later : List Walk) (events : List CallEvent) → IsLook g p c n pa space o kept given later events
     → MatchOption o (is_walked given ≡ true) (λ gpi. given ≡ block_answer space gpi)
@@ -137,17 +121,20 @@ decided_under_way g c k pa space (Some gpi) inside =
 -- the GPI that decided it, if it is decided
 abbrev decided_gpi : GeometryData → ℕ → Stage → Option Gpi
 decided_gpi g pa (stage.Closing w m) = walk_gpi g pa w
+decided_gpi g pa (stage.Touching access) = Some access.gpi
 decided_gpi g pa (stage.Leaving access) = Some access.gpi
 decided_gpi g pa s = None
 
 look_entries : (g : GeometryData) (c k pa : ℕ) (space : Space) (s : Stage) → decided_entries g c k pa space (decided_gpi g pa s) ≡ entries_at g c k s (Some (task.Look pa space))
 look_entries g c k pa space (stage.Closing w m) = refl
+look_entries g c k pa space (stage.Touching access) = refl
 look_entries g c k pa space (stage.Leaving access) = refl
 look_entries g c k pa space s = refl
 
 -- one that isn't under way has made none
 pub no_entries : (g : GeometryData) (c k : ℕ) (s : Stage) → entries_at g c k s None ≡ []
 no_entries g c k (stage.Closing w m) = refl
+no_entries g c k (stage.Touching access) = refl
 no_entries g c k (stage.Leaving access) = refl
 no_entries g c k s = refl
 
@@ -189,12 +176,15 @@ under_way_fails : (p : Entry → Bool) (g : GeometryData) (c k : ℕ) (s : Stage
 under_way_fails p g c k s None fails = ap (list_any p) (no_entries g c k s)
 under_way_fails p g c k s (Some (task.Look pa space)) fails = subst (λ (es : List Entry). list_any p es ≡ false) (look_entries g c k pa space s) (decided_fails p g c k pa space (decided_gpi g pa s) fails)
 under_way_fails p g c k (stage.Closing w m) (Some (task.Delegate pa source)) fails = refl
+under_way_fails p g c k (stage.Touching access) (Some (task.Delegate pa source)) fails = refl
 under_way_fails p g c k (stage.Leaving access) (Some (task.Delegate pa source)) fails = refl
 under_way_fails p g c k s (Some (task.Delegate pa source)) fails = refl
 under_way_fails p g c k (stage.Closing w m) (Some (task.Undelegate pa source)) fails = refl
+under_way_fails p g c k (stage.Touching access) (Some (task.Undelegate pa source)) fails = refl
 under_way_fails p g c k (stage.Leaving access) (Some (task.Undelegate pa source)) fails = refl
 under_way_fails p g c k s (Some (task.Undelegate pa source)) fails = refl
 under_way_fails p g c k (stage.Closing w m) (Some task.Unknown) fails = refl
+under_way_fails p g c k (stage.Touching access) (Some task.Unknown) fails = refl
 under_way_fails p g c k (stage.Leaving access) (Some task.Unknown) fails = refl
 under_way_fails p g c k s (Some task.Unknown) fails = refl
 

@@ -12,6 +12,7 @@ pub mod StampLemmas
 pub mod WalkLemmas
 pub mod MarkLemmas
 pub mod LineLemmas
+pub mod DecidedLemmas
 pub mod StepLemmas
 pub mod ActLemmas
 pub mod LockActs

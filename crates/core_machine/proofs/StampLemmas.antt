@@ -69,6 +69,7 @@ caller_loads_rise g words after (caller.Cpu q) made rises loads =
 at_grows : (g : GeometryData) (map : List Gpi) (c k pa : ℕ) (space : Space) (s : Stage) (h made : List Entry) → stamps_at g map c k pa space s h → stamps_at g map c k pa space s (h ++ made)
 at_grows g map c k pa space (stage.Closing w m) h made stamps =
     record { gpi = stamps.gpi; gives = stamps.gives; decided = decided_later map g.setup.first (granule_bytes g.setup) c k _ space stamps.gpi _ m w.reach w.tag h made _ refl stamps.decided }
+at_grows g map c k pa space (stage.Touching access) h made stamps = stamped_later map g.setup.first (granule_bytes g.setup) c k _ space _ h made _ refl stamps
 at_grows g map c k pa space (stage.Leaving access) h made stamps = stamped_later map g.setup.first (granule_bytes g.setup) c k _ space _ h made _ refl stamps
 at_grows g map c k pa space s h made stamps = tt
 

@@ -119,6 +119,7 @@ StampedBy g map c k pa space access h =
 
 abbrev pub stamps_at : GeometryData → List Gpi → ℕ → ℕ → ℕ → Space → Stage → List Entry → Type 0
 stamps_at g map c k pa space (stage.Closing w m) h = DecidedBy g map c k pa space w m h
+stamps_at g map c k pa space (stage.Touching access) h = StampedBy g map c k pa space access h
 stamps_at g map c k pa space (stage.Leaving access) h = StampedBy g map c k pa space access h
 stamps_at g map c k pa space s h = Unit {0}
 
@@ -158,6 +159,7 @@ decision_of g pa space (Some gpi) =
 
 abbrev pub decided_at : GeometryData → ℕ → Space → Stage → List Decision
 decided_at g pa space (stage.Closing w m) = decision_of g pa space (walk_gpi g pa w)
+decided_at g pa space (stage.Touching a) = decision_of g pa space (Some a.gpi)
 decided_at g pa space (stage.Leaving a) = decision_of g pa space (Some a.gpi)
 decided_at g pa space s = []
 
@@ -175,6 +177,7 @@ touch_by g pa space (Some gpi) =
 
 abbrev pub touching_at : GeometryData → ℕ → Space → Stage → List (ℕ × Space)
 touching_at g pa space (stage.Closing w m) = touch_by g pa space (walk_gpi g pa w)
+touching_at g pa space (stage.Touching a) = touch_by g pa space (Some a.gpi)
 touching_at g pa space s = []
 
 abbrev pub touching_under : GeometryData → Option Task → Stage → List (ℕ × Space)

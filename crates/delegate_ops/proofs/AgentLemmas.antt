@@ -15,7 +15,7 @@ use Rattle.gpt_descriptors.specs.Places.{GeometryData, Level1, place_of, l1_inde
 use Rattle.gpt_descriptors.proofs.CanonicalLemmas.{words_some}
 use Rattle.shared_words.specs.declared.act.Act.{Act}
 use Rattle.shatter.specs.Splitting.{SplittingData, advanced}
-use Rattle.gpt_descriptors.specs.Fields.{equal_gpi}
+use Rattle.gpt_descriptors.specs.Fields.{equal_gpi, granules_of}
 use Rattle.gpt_descriptors.specs.declared.size.MaxBlock.{MaxBlock}
 use Rattle.gpt_descriptors.specs.Sizes.{is_permitted}
 use Rattle.table_meaning.specs.Fusing.{block_words, loads_of, needed_word, test_or_store, passed, failed, loaded, stored, begun}
@@ -23,19 +23,23 @@ use Rattle.table_meaning.specs.declared.fusing.Fusing.{Fusing}
 use Rattle.table_meaning.specs.declared.fusing.Fusing.TheVariants.{Testing, Storing, Ended}
 use Rattle.fuse.specs.Merging.{FuseData}
 use Rattle.fuse.specs.Merging as fuse
+use Rattle.invalidate.specs.Barrier.{BarrierData, one_passed}
+use Rattle.invalidate.specs.Barrier as barrier
 use Rattle.history.specs.declared.call.Task.{Task}
 use Rattle.history.specs.declared.call.Task.TheVariants as task
 use Rattle.history.specs.Counts.{is_worn}
 use Rattle.history.specs.declared.call.Answer.{Answer}
 use Rattle.delegate_ops.specs.declared.stage.Change.{Change}
 use Rattle.delegate_ops.specs.declared.stage.Change.TheVariants as change
+use Rattle.delegate_ops.specs.declared.stage.Line.{Line}
+use Rattle.delegate_ops.specs.declared.stage.Line.TheVariants as line
 use Rattle.delegate_ops.specs.declared.stage.Kept.{Kept}
 use Rattle.delegate_ops.specs.InnerStages.{Stage}
 use Rattle.delegate_ops.specs.InnerStages as stage
 use Rattle.gpt_descriptors.specs.Entries.{l1_entry}
 use Rattle.delegate_ops.specs.Deciding.{address_of, idle_answer, looked_answer, worn_answer}
 use Rattle.delegate_ops.specs.Changing.{first_change, splitting_of}
-use Rattle.delegate_ops.specs.InnerAgents.{AgentData, IsAgent, IsStage, IsChangeOf, IsSplittingOf, IsMergingOf, HasRoom, HasRoomFor, raises_from, number_of, HasActs, is_look, task_of, answered_first, idle_answers, goes_to, waits_at, after_answer, looked_stage, loaded_stage, read_all, read_stage, split_stage, merging_stage, merged_stage, raised_stage, kept_read, kept_raised, stage_after, is_held, took_at, took_of, took_under_way}
+use Rattle.delegate_ops.specs.InnerAgents.{AgentData, IsAgent, IsStage, IsChangeOf, IsPrepared, IsCleaned, IsSplittingOf, IsMergingOf, HasRoom, HasRoomFor, raises_from, raises_after, number_of, HasActs, is_look, task_of, answered_first, idle_answers, goes_to, waits_at, after_answer, looked_stage, loaded_stage, read_all, read_stage, split_stage, merging_stage, merged_stage, first_stage, last_stage, passed_stage, passing_stage, cleaned_stage, raised_stage, kept_read, kept_raised, stage_after, is_held, took_at, took_of, took_under_way}
 use Rattle.delegate_ops.specs.InnerTransition.{IsMove}
 use Rattle.delegate_ops.proofs.NextLemmas.{acts_place, acts_index}
 
@@ -158,10 +162,16 @@ split_begins g t z v acts =
       low = lt-ltb 0 (words_of g.setup z) (words_some g.setup z);
     }
 
+first_fits : (g : GeometryData) (t : Task) (k : Kept) → IsChangeOf t (first_change t) → HasRoomFor (raises_from (first_change t)) k.generations → IsStage g (first_stage t k) (Some t)
+first_fits g (task.Delegate pa source) k is room = (tt, room)
+first_fits g (task.Undelegate pa source) k is room = (tt, room)
+first_fits g task.Unknown k is room = absurd is
+first_fits g (task.Look pa space) k is room = absurd is
+
 loaded_fits : (g : GeometryData) (t : Task) (e : Option L1Entry) (k : Kept) → idle_answer g t ≡ None → IsMove t → HasRoom k.generations 2 2 2 → IsStage g (loaded_stage g t e k) (Some t)
 loaded_fits g t (Some (l1.Contig z v)) k acts moves room = (split_begins g t z v acts, first_is_change t moves, room_from k.generations (first_change t) room)
-loaded_fits g t (Some (l1.Granules word)) k acts moves room = (first_is_change t moves, room_from k.generations (first_change t) room)
-loaded_fits g t None k acts moves room = (first_is_change t moves, room_from k.generations (first_change t) room)
+loaded_fits g t (Some (l1.Granules word)) k acts moves room = first_fits g t k (first_is_change t moves) (room_from k.generations (first_change t) room)
+loaded_fits g t None k acts moves room = first_fits g t k (first_is_change t moves) (room_from k.generations (first_change t) room)
 
 read_all_fits : (g : GeometryData) (o : Option Answer) (t : Task) (k : Kept) → idle_answer g t ≡ None → IsMove t → worn_answer k.generations ≡ o → IsStage g (read_all g o t k) (Some t)
 read_all_fits g None t k acts moves worn = loaded_fits g t (l1_entry k.word) k acts moves (worn_room k.generations worn)
@@ -177,7 +187,7 @@ split_fits g t z d k fits =
     elim (cases_Bool (ltb (d.made + 1) d.words)) [
       | inl more ↦ rw more
           (record { place = fits.0.place; there = fits.0.there; first = fits.0.first; own = fits.0.own; words = fits.0.words; two = fits.0.two; low = more }, fits.1, fits.2)
-      | inr over ↦ rw over (fits.1, fits.2)
+      | inr over ↦ rw over (first_fits g t (record { word = granules_of d.gpi; generations = k }) fits.1 fits.2)
     ]
 
 -- merging that isn't over has a next act
@@ -235,10 +245,39 @@ begun_counted : (two : ℕ) (max : MaxBlock) (o : Option Gpi) → 0 < two → fu
 begun_counted two max None some = tt
 begun_counted two max (Some v) some = elim (cases_Bool (is_permitted max size.Two)) [ inl permitted ↦ rw permitted some | inr refused ↦ rw refused tt ]
 
-begun_fits : (g : GeometryData) (t : Task) (word : ℕ) (k : Generations) → idle_answer g t ≡ None → IsStage g (merged_stage (fuse.fuse_of g (number_of (l1_index_of g (address_of t))) word) k) (Some t)
-begun_fits g t word k acts =
+last_fits : (g : GeometryData) (t : Task) (k : Kept) → idle_answer g t ≡ None → IsStage g (last_stage g t k) (Some t)
+last_fits g t k acts =
     let there = acts_index g t acts in
-    rw there.1 (merging_fits g t (fuse.fuse_of g there.0 word) k there.0 _ there.1 refl refl refl refl (begun_counted (words_of g.setup size.Two) g.setup.max (equal_gpi word) (words_some g.setup size.Two)) refl)
+    rw there.1 (merging_fits g t (fuse.fuse_of g there.0 k.word) k.generations there.0 _ there.1 refl refl refl refl
+    (begun_counted (words_of g.setup size.Two) g.setup.max (equal_gpi k.word) (words_some g.setup size.Two)) refl)
+
+-- what follows the third raise
+passed_fits : (g : GeometryData) (t : Task) (c : Change) (k : Kept) → idle_answer g t ≡ None → IsChangeOf t c → HasRoomFor (raises_after c) k.generations → IsStage g (passed_stage g t c k) (Some t)
+passed_fits g (task.Delegate pa source) change.First k acts is room = absurd is
+passed_fits g (task.Delegate pa source) change.Last k acts is room = (tt, room)
+passed_fits g (task.Undelegate pa source) change.First k acts is room = (tt, room)
+passed_fits g (task.Undelegate pa source) change.Last k acts is room = last_fits g (task.Undelegate pa source) k acts
+passed_fits g task.Unknown c k acts is room = absurd is
+passed_fits g (task.Look pa space) c k acts is room = absurd is
+
+passing_fits : (g : GeometryData) (t : Task) (c : Change) (d : BarrierData) (k : Kept) → idle_answer g t ≡ None → IsChangeOf t c → d.cpus ≡ g.cpus → HasRoomFor (raises_after c) k.generations
+    → IsStage g (passing_stage g t c d k) (Some t)
+passing_fits g t c d k acts is cpus room =
+    elim (cases_Bool (ltb d.passed d.cpus)) [ inl more ↦ rw more (is, record { cpus = cpus; low = more }, room) | inr over ↦ rw over (passed_fits g t c k acts is room) ]
+
+prepared_change : (t : Task) → IsPrepared t → IsChangeOf t change.Last
+prepared_change (task.Delegate pa source) is = tt
+prepared_change (task.Undelegate pa source) is = absurd is
+prepared_change task.Unknown is = absurd is
+prepared_change (task.Look pa space) is = absurd is
+
+cleaned_fits : (g : GeometryData) (t : Task) (c : Change) (l : Line) (k : Kept) → idle_answer g t ≡ None → IsCleaned t c l → HasRoomFor (raises_after c) k.generations → IsStage g (cleaned_stage g t c l k) (Some t)
+cleaned_fits g (task.Undelegate pa source) change.First line.Former k acts is room = (tt, room)
+cleaned_fits g (task.Undelegate pa source) change.First line.NonSecure k acts is room = (tt, room)
+cleaned_fits g (task.Delegate pa source) change.First l k acts is room = absurd is
+cleaned_fits g task.Unknown change.First l k acts is room = absurd is
+cleaned_fits g (task.Look pa space) change.First l k acts is room = absurd is
+cleaned_fits g t change.Last l k acts is room = last_fits g t k acts
 
 merged_fits : (g : GeometryData) (t : Task) (f : FuseData) (old : ℕ) (k : Generations) → IsMergingOf g (address_of t) f → IsStage g (merged_stage (fuse.took_of f old) k) (Some t)
 merged_fits g t f old k is =
@@ -251,8 +290,11 @@ raised_fits g t change.Last size.Two k acts fits = (fits.0, record { two = omega
 raised_fits g t change.First size.ThirtyTwo k acts fits = (fits.0, record { two = fits.1.two; thirty_two = omega (arith, fits.1.thirty_two); five_twelve = fits.1.five_twelve })
 raised_fits g t change.Last size.ThirtyTwo k acts fits = (fits.0, record { two = fits.1.two; thirty_two = omega (arith, fits.1.thirty_two); five_twelve = fits.1.five_twelve })
 raised_fits g t change.First size.FiveTwelve k acts fits =
-    (last_is_change t change.First fits.0, record { two = fits.1.two; thirty_two = fits.1.thirty_two; five_twelve = omega (arith, fits.1.five_twelve) })
-raised_fits g t change.Last size.FiveTwelve k acts fits = begun_fits g t k.word (kept_raised size.FiveTwelve k).generations acts
+    passing_fits g t change.First (barrier.begun g.cpus) (kept_raised size.FiveTwelve k) acts fits.0 refl
+    (record { two = fits.1.two; thirty_two = fits.1.thirty_two; five_twelve = omega (arith, fits.1.five_twelve) })
+raised_fits g t change.Last size.FiveTwelve k acts fits =
+    passing_fits g t change.Last (barrier.begun g.cpus) (kept_raised size.FiveTwelve k) acts fits.0 refl
+    (record { two = fits.1.two; thirty_two = fits.1.thirty_two; five_twelve = omega (arith, fits.1.five_twelve) })
 
 -- where a transition goes on it has room for what is left to raise, and what it splits and merges is around its word
 pub stage_fits : (g : GeometryData) (t : Task) (s : Stage) (old : ℕ) → idle_answer g t ≡ None → IsMove t → IsStage g s (Some t) → IsStage g (stage_after g t s old) (Some t)
@@ -260,6 +302,9 @@ stage_fits g t stage.Locking old acts moves fits = tt
 stage_fits g t stage.Looking old acts moves fits = looked_fits g (looked_answer g t old) old t
 stage_fits g t (stage.Reading z k) old acts moves fits = read_fits g t z (kept_read z old k) acts moves
 stage_fits g t (stage.Splitting z d k) old acts moves fits = split_fits g t z d k fits
+stage_fits g t (stage.Preparing k) old acts moves fits = (prepared_change t fits.0, fits.1)
+stage_fits g t (stage.Passing c d k) old acts moves fits = passing_fits g t c (one_passed d) k acts fits.0 fits.1.cpus fits.2
+stage_fits g t (stage.Cleaning c l k) old acts moves fits = cleaned_fits g t c l k acts fits.0 fits.1
 stage_fits g t (stage.Changing c k) old acts moves fits =
     (fits.0, record { two = fits.1.two; thirty_two = fits.1.thirty_two; five_twelve = fits.1.five_twelve })
 stage_fits g t (stage.Raising c z k) old acts moves fits = raised_fits g t c z k acts fits
@@ -294,6 +339,9 @@ took_at_is_agent a t (stage.Reading z k) old is under_way = goes_on_is_agent a t
 took_at_is_agent a t (stage.Splitting z d k) old is under_way = goes_on_is_agent a t (stage.Splitting z d k) old is under_way
 took_at_is_agent a t (stage.Changing c k) old is under_way = goes_on_is_agent a t (stage.Changing c k) old is under_way
 took_at_is_agent a t (stage.Raising c z k) old is under_way = goes_on_is_agent a t (stage.Raising c z k) old is under_way
+took_at_is_agent a t (stage.Preparing k) old is under_way = goes_on_is_agent a t (stage.Preparing k) old is under_way
+took_at_is_agent a t (stage.Passing c d k) old is under_way = goes_on_is_agent a t (stage.Passing c d k) old is under_way
+took_at_is_agent a t (stage.Cleaning c l k) old is under_way = goes_on_is_agent a t (stage.Cleaning c l k) old is under_way
 took_at_is_agent a t (stage.Merging f k) old is under_way = goes_on_is_agent a t (stage.Merging f k) old is under_way
 took_at_is_agent a t (stage.Releasing answer) old is under_way = answer_is_agent (at_stage a (stage.Releasing answer)) t answer is under_way
 

@@ -1,8 +1,9 @@
 -- An agent that has come to its stage by some events follows its script by them.
-use Rattle.std.proofs.Common.{◌≡◌, ℕ, zero, suc, ◌≤◌, ◌++◌, ◌∷◌, [], List, true, Option, Some, None, length, map, append_assoc, append-nil, refl, sym, ap, ◌∙◌, subst, inl, inr, arith}
+use Rattle.std.proofs.Common.{◌≡◌, ℕ, zero, suc, ◌+◌, ◌-◌, ◌≤◌, ◌++◌, ◌∷◌, [], List, true, Option, Some, None, length, map, append_assoc, append-nil, refl, sym, ap, ◌∙◌, subst, inl, inr, arith}
 use Rattle.std.specs.Prelude.{slice_get, MatchOption}
 use Rattle.std.specs.List.{All}
-use Rattle.std.proofs.lemmas.Bool.{cases_Bool}
+use Rattle.std.proofs.lemmas.Bool.{cases_Bool, ltb-true}
+use Rattle.std.proofs.lemmas.List.Elements.{All-nil}
 use Rattle.gpi_values.specs.declared.gpi.Gpi.TheVariants as gpi
 use Rattle.gpi_values.specs.declared.security.Source.TheVariants as source
 use Rattle.gpt_descriptors.specs.declared.size.Size.{Size}
@@ -20,20 +21,22 @@ use Rattle.fuse.proofs.ScriptLemmas.{steps_are_part}
 use Rattle.std.proofs.lemmas.List.{map-append}
 use Rattle.bit_locks.specs.Locks.{take_act, release_act}
 use Rattle.invalidate.specs.Generations.{gen_load_of}
+use Rattle.invalidate.specs.Duty.{barrier_load}
+use Rattle.invalidate.specs.Barrier.{BarrierData}
 use Rattle.history.specs.declared.call.Task.{Task}
 use Rattle.history.specs.declared.call.Task.TheVariants as task
 use Rattle.history.specs.declared.call.Answer.{Answer}
 use Rattle.history.specs.declared.call.Answer.TheVariants as answer
 use Rattle.history.specs.Counts.{is_worn}
-use Rattle.history.specs.Events.{CallEvent, Step, plain, plain_event}
+use Rattle.history.specs.Events.{CallEvent, plain, plain_event}
 use Rattle.delegate_ops.specs.declared.stage.Kept.{Kept}
 use Rattle.delegate_ops.specs.InnerStages.{Stage}
 use Rattle.delegate_ops.specs.InnerStages as stage
 use Rattle.delegate_ops.specs.Deciding.{address_of, idle_answer, looked_answer, worn_answer}
-use Rattle.delegate_ops.specs.Script.{lock_bit_of, entries_of, IsWait, TakesLock, reads, Decides, IsUnderWay, Follows}
+use Rattle.delegate_ops.specs.Script.{lock_bit_of, entries_of, IsWait, Part, Makes, Passes, IsBusy, ArePassed, TakesLock, reads, Decides, IsUnderWay, Follows}
 use Rattle.delegate_ops.specs.InnerAgents.{AgentData, IsAgent, HasActs, task_of, has_ended}
-use Rattle.delegate_ops.specs.InnerScript.{IsReading, reads_before, IsChanging, IsMergingAt, IsPrefix, HasWalked}
-use Rattle.delegate_ops.proofs.BlockLemmas.{one_made, done_by}
+use Rattle.delegate_ops.specs.InnerScript.{IsReading, reads_before, IsChanging, IsPassingAt, IsMergingAt, IsPrefix, HasWalked}
+use Rattle.delegate_ops.proofs.BlockLemmas.{one_made, barrier_made, one_passes, done_by}
 use Rattle.delegate_ops.proofs.NextLemmas.{acts_place, acts_index}
 
 -- more events bring the call to where it decides
@@ -144,17 +147,42 @@ reading_goes g c n t z k events reading =
       }));
     }
 
--- the steps that are still to come are made
-all_made : (g : GeometryData) (c n : ℕ) (t : Task) (place : ℕ) (to_come : List Step) (last : Generations) (word : ℕ) (events : List CallEvent) → IsChanging g c n t place to_come last word events
+-- processors that are still to be passed are passed at once
+barrier_on : (g : GeometryData) (passed left : ℕ) (before : List CallEvent) → ArePassed g passed before → (rest : List CallEvent) × ArePassed g (passed + left) (before ++ rest)
+barrier_on g passed zero before are =
+    let none : passed ≡ passed + 0 = omega arith in
+    ([], subst (λ (m : ℕ). ArePassed g m (before ++ [])) none (subst (ArePassed g passed) (sym (append-nil before)) are))
+barrier_on g passed (suc left) before are =
+    let first = barrier_on g passed left before are in
+    let e : CallEvent = plain (barrier_load g (passed + left)) 0 in
+    let one : suc (passed + left) ≡ passed + suc left = omega arith in (
+      first.0 ++ e ∷ [],
+      subst (λ (m : ℕ). ArePassed g m (before ++ (first.0 ++ e ∷ []))) one (
+        before ++ first.0,
+        e ∷ [],
+        sym (append_assoc before first.0 (e ∷ [])),
+        first.1,
+        record { waits = []; busy = All-nil (IsBusy g (passed + left)); parts = refl },
+      ),
+    )
+
+-- the parts that are still to come are made
+all_made : (g : GeometryData) (c n : ℕ) (t : Task) (place : ℕ) (to_come : List Part) (last : Generations) (word : ℕ) (events : List CallEvent) → IsChanging g c n t place to_come last word events
     → (rest : List CallEvent) × IsChanging g c n t place [] last word (events ++ rest)
 all_made g c n t place [] last word events changing = ([], subst (IsChanging g c n t place [] last word) (sym (append-nil events)) changing)
-all_made g c n t place (next ∷ to_come) last word events changing =
+all_made g c n t place (Makes next ∷ to_come) last word events changing =
     let e : CallEvent = record { act = next.act; old = 0; made = next.made } in
     let later = all_made g c n t place to_come last word (events ++ e ∷ []) (one_made g c n t place next 0 to_come last word events changing) in
     (e ∷ later.0, subst (IsChanging g c n t place [] last word) (append_assoc events (e ∷ []) later.0) later.1)
+all_made g c n t place (Passes ∷ to_come) last word events changing =
+    let barrier = barrier_on g 0 g.cpus [] refl in
+    let all : 0 + g.cpus ≡ g.cpus = omega arith in
+    let later = all_made g c n t place to_come last word (events ++ barrier.0)
+    (barrier_made g c n t place to_come last word events barrier.0 changing (subst (λ (m : ℕ). ArePassed g m barrier.0) all barrier.1)) in
+    (barrier.0 ++ later.0, subst (IsChanging g c n t place [] last word) (append_assoc events barrier.0 later.0) later.1)
 
 -- and some merging
-changing_goes : (g : GeometryData) (c n : ℕ) (t : Task) (place : ℕ) (to_come : List Step) (last : Generations) (word : ℕ) (events : List CallEvent) → idle_answer g t ≡ None
+changing_goes : (g : GeometryData) (c n : ℕ) (t : Task) (place : ℕ) (to_come : List Part) (last : Generations) (word : ℕ) (events : List CallEvent) → idle_answer g t ≡ None
     → IsChanging g c n t place to_come last word events → GoesOn g c n t events
 changing_goes g c n t place to_come last word events acts changing =
     let made = all_made g c n t place to_come last word events changing in
@@ -168,6 +196,26 @@ changing_goes g c n t place to_come last word events acts changing =
       decided = subst (Decides g c n t (answer.Done last)) (append_assoc events made.0 merging)
           (done_by g c n t place last word (events ++ made.0) merging made.1
           (record { index = there.0; there = there.1; outcome = part.1; merging = part.0; whole = part.2; parts = refl }));
+    }
+
+-- in a barrier the processors that are left are passed
+passing_goes : (g : GeometryData) (c n : ℕ) (t : Task) (place : ℕ) (d : BarrierData) (to_come : List Part) (last : Generations) (word : ℕ) (events : List CallEvent) → idle_answer g t ≡ None
+    → IsPassingAt g c n t place d to_come last word events → GoesOn g c n t events
+passing_goes g c n t place d to_come last word events acts at =
+    let e : CallEvent = plain (barrier_load g d.passed) 0 in
+    let more = barrier_on g (suc d.passed) (g.cpus - suc d.passed) (at.passing ++ e ∷ []) (one_passes g d.passed at.passing at.passes) in
+    let all : suc d.passed + (g.cpus - suc d.passed) ≡ g.cpus = omega (arith, ltb-true _ _ at.barrier.low, at.barrier.cpus) in
+    let barrier : List CallEvent = (at.passing ++ e ∷ []) ++ more.0 in
+    let made : IsChanging g c n t place to_come last word (at.changing ++ barrier) =
+    barrier_made g c n t place to_come last word at.changing barrier at.changed (subst (λ (m : ℕ). ArePassed g m barrier) all more.1) in
+    let whole : at.changing ++ barrier ≡ events ++ e ∷ more.0 =
+    ap (λ (es : List CallEvent). at.changing ++ es) (append_assoc at.passing (e ∷ []) more.0) ∙ sym (append_assoc at.changing at.passing (e ∷ more.0))
+    ∙ ap (λ (es : List CallEvent). es ++ e ∷ more.0) (sym at.parts) in
+    let goes = changing_goes g c n t place to_come last word (events ++ e ∷ more.0) acts (subst (IsChanging g c n t place to_come last word) whole made) in
+    record {
+      rest = (e ∷ more.0) ++ goes.rest;
+      given = goes.given;
+      decided = subst (Decides g c n t goes.given) {x = (events ++ e ∷ more.0) ++ goes.rest} (append_assoc events (e ∷ more.0) goes.rest) goes.decided;
     }
 
 merging_goes : (g : GeometryData) (c n : ℕ) (t : Task) (f : FuseData) (last : Generations) (events : List CallEvent) → IsMergingAt g c n t f last events → GoesOn g c n t events
@@ -193,6 +241,9 @@ prefix_under_way g c n stage.Locking t events acts prefix = under_way_by g c n t
 prefix_under_way g c n stage.Looking t events acts prefix = under_way_by g c n t events acts (let there = acts_place g t acts in locked_goes g c n t there.0 events there.1 prefix)
 prefix_under_way g c n (stage.Reading z k) t events acts prefix = under_way_by g c n t events acts (reading_goes g c n t z k events prefix)
 prefix_under_way g c n (stage.Splitting z d k) t events acts prefix = under_way_by g c n t events acts (changing_goes g c n t prefix.0 _ _ _ events acts prefix.2)
+prefix_under_way g c n (stage.Preparing k) t events acts prefix = under_way_by g c n t events acts (changing_goes g c n t prefix.0 _ _ _ events acts prefix.2)
+prefix_under_way g c n (stage.Passing ch d k) t events acts prefix = under_way_by g c n t events acts (passing_goes g c n t prefix.0 d _ _ _ events acts prefix.2)
+prefix_under_way g c n (stage.Cleaning ch l k) t events acts prefix = under_way_by g c n t events acts (changing_goes g c n t prefix.0 _ _ _ events acts prefix.2)
 prefix_under_way g c n (stage.Changing ch k) t events acts prefix = under_way_by g c n t events acts (changing_goes g c n t prefix.0 _ _ _ events acts prefix.2)
 prefix_under_way g c n (stage.Raising ch z k) t events acts prefix = under_way_by g c n t events acts (changing_goes g c n t prefix.0 _ _ _ events acts prefix.2)
 prefix_under_way g c n (stage.Merging f k) t events acts prefix = under_way_by g c n t events acts (merging_goes g c n t f k events prefix)

@@ -10,3 +10,4 @@ pub mod PlaceLemmas
 pub mod TransitionLemmas
 pub mod TurnLemmas
 pub mod RunLemmas
+pub mod SpaceLemmas

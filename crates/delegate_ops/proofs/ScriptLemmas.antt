@@ -13,6 +13,9 @@ use Rattle.shared_words.specs.declared.act.Act.{Act}
 use Rattle.shared_words.specs.declared.act.Act.TheVariants as act
 use Rattle.bit_locks.specs.Locks.{take_act, release_act}
 use Rattle.invalidate.specs.Generations.{gen_load_of, gen_raise_of}
+use Rattle.invalidate.specs.Duty.{barrier_load}
+use Rattle.invalidate.specs.Barrier.{BarrierData, next_load, one_passed}
+use Rattle.invalidate.specs.Barrier as barrier
 use Rattle.history.specs.declared.call.Task.{Task}
 use Rattle.history.specs.declared.call.Answer.{Answer}
 use Rattle.history.specs.Events.{CallEvent, Step, plain}
@@ -25,11 +28,11 @@ use Rattle.delegate_ops.specs.Deciding.{address_of, idle_answer, looked_answer, 
 use Rattle.delegate_ops.specs.Changing.{changed_word}
 use Rattle.shatter.specs.Splitting.{advanced}
 use Rattle.fuse.specs.Merging as fuse
-use Rattle.delegate_ops.specs.InnerAgents.{AgentData, IsAgent, HasActs, is_look, task_of, answered_first, idle_answers, fresh, act_at, next_of, looked_stage, read_stage, split_stage, merged_stage, raised_stage, kept_read, kept_changed, kept_raised, took_at, took_under_way, took_of}
-use Rattle.delegate_ops.specs.Script.{lock_bit_of, IsWait, TakesLock, Looks, completion, change_entry, Decides, Releases, IsCall, AreCallEvents}
-use Rattle.delegate_ops.specs.InnerScript.{IsReading, reads_before, IsPrefix, HasWalked}
+use Rattle.delegate_ops.specs.InnerAgents.{AgentData, IsAgent, IsStage, IsChangeOf, HasActs, is_look, task_of, answered_first, idle_answers, fresh, act_at, next_of, looked_stage, read_stage, split_stage, merged_stage, passing_stage, cleaned_stage, raised_stage, kept_read, kept_changed, kept_raised, took_at, took_under_way, took_of}
+use Rattle.delegate_ops.specs.Script.{lock_bit_of, IsWait, TakesLock, Looks, Passes, completion, change_entry, Decides, Releases, IsCall, AreCallEvents}
+use Rattle.delegate_ops.specs.InnerScript.{IsReading, reads_before, parts_after, IsPrefix, HasWalked}
 use Rattle.delegate_ops.specs.InnerEntries.{known_entries, made_at}
-use Rattle.delegate_ops.proofs.BlockLemmas.{one_made, read_all_prefix, split_prefix, begun_prefix, merged_prefix}
+use Rattle.delegate_ops.proofs.BlockLemmas.{one_made, read_all_prefix, split_prefix, merged_prefix, prepared_prefix, passing_prefix, found_prefix, busy_prefix, cleaned_prefix}
 use Rattle.delegate_ops.proofs.AgentLemmas.{acts_move, first_is_change, no_look_at}
 
 -- ---- the answered calls
@@ -160,15 +163,36 @@ read_prefix g c n t size.FiveTwelve k old events acts no_look reading =
       parts = rw reading.parts (append_assoc reading.looking (reads_before g (address_of t) size.FiveTwelve k.generations) _);
     })
 
-raised_prefix : (g : GeometryData) (c n : ℕ) (t : Task) (ch : Change) (z : Size) (k : Kept) (old : ℕ) (events : List CallEvent) → idle_answer g t ≡ None → IsPrefix g c n (stage.Raising ch z k) (Some t) events
+raised_prefix : (g : GeometryData) (c n : ℕ) (t : Task) (ch : Change) (z : Size) (k : Kept) (old : ℕ) (events : List CallEvent) → IsChangeOf t ch → idle_answer g t ≡ None → IsPrefix g c n (stage.Raising ch z k) (Some t) events
     → IsPrefix g c n (raised_stage g t ch z (kept_raised z k)) (Some t)
     (events ++ record { act = gen_raise_of g z (address_of t) (generation_in z k.generations); old = old; made = made_at g c n (stage.Raising ch z k) (Some t) old } ∷ [])
-raised_prefix g c n t ch size.Two k old events acts prefix = (prefix.0, prefix.1, one_made g c n t prefix.0 _ old _ _ _ events prefix.2)
-raised_prefix g c n t ch size.ThirtyTwo k old events acts prefix = (prefix.0, prefix.1, one_made g c n t prefix.0 _ old _ _ _ events prefix.2)
-raised_prefix g c n t change.First size.FiveTwelve k old events acts prefix = (prefix.0, prefix.1, one_made g c n t prefix.0 _ old _ _ _ events prefix.2)
-raised_prefix g c n t change.Last size.FiveTwelve k old events acts prefix =
+raised_prefix g c n t ch size.Two k old events is acts prefix = (prefix.0, prefix.1, one_made g c n t prefix.0 _ old _ _ _ events prefix.2)
+raised_prefix g c n t ch size.ThirtyTwo k old events is acts prefix = (prefix.0, prefix.1, one_made g c n t prefix.0 _ old _ _ _ events prefix.2)
+raised_prefix g c n t ch size.FiveTwelve k old events is acts prefix =
     let step : Step = record { act = gen_raise_of g size.FiveTwelve (address_of t) k.generations.five_twelve; made = completion g c n t ∷ [] } in
-    begun_prefix g c n t prefix.0 (kept_raised size.FiveTwelve k) _ acts (one_made g c n t prefix.0 step old [] _ _ events prefix.2)
+    let e : CallEvent = record { act = step.act; old = old; made = step.made } in
+    let kept = kept_raised size.FiveTwelve k in
+    subst (IsPrefix g c n (raised_stage g t ch size.FiveTwelve kept) (Some t)) (append-nil (events ++ e ∷ []))
+    (passing_prefix g c n t ch (barrier.begun g.cpus) kept prefix.0 (events ++ e ∷ []) [] acts is prefix.1 refl (omega arith)
+    (one_made g c n t prefix.0 step old (Passes ∷ parts_after g c n t prefix.0 ch kept) _ _ events prefix.2) refl)
+
+-- a duty word is loaded
+passing : (g : GeometryData) (c : ℕ) (tasks : List Task) (answers : List Answer) (waited : Bool) (t : Task) (ch : Change) (d : BarrierData) (k : Kept) (calls last : List CallEvent) (next : Act) (old : ℕ)
+    → slice_get tasks (length answers) ≡ Some t → idle_answer g t ≡ None → IsChangeOf t ch → AreCallEvents g c 0 tasks answers calls → IsPrefix g c (length answers) (stage.Passing ch d k) (Some t) last
+    → next_load g d ≡ Some next
+    → HasWalked c (took_at (agent g tasks answers (stage.Passing ch d k) waited) t (stage.Passing ch d k) old) ((calls ++ last) ++ plain next old ∷ [])
+passing g c tasks answers waited t ch d k calls last next old here acts is are prefix there =
+    let load : barrier_load g d.passed ≡ next = let both = rw prefix.2.barrier.low at there in cc in
+    rw (← load) (elim (eqb_tells old 0) [
+      | inl free ↦
+          rw free.0
+          (goes_on g c tasks answers (passing_stage g t ch (one_passed d) k) _ t calls last (plain (barrier_load g d.passed) old) here are
+          (subst (λ (m : ℕ). IsPrefix g c (length answers) (passing_stage g t ch (one_passed d) k) (Some t) (last ++ plain (barrier_load g d.passed) m ∷ [])) (sym free.1)
+          (found_prefix g c (length answers) t ch d k last acts is prefix)))
+      | inr held ↦
+          rw held.0
+          (goes_on g c tasks answers (stage.Passing ch d k) _ t calls last (plain (barrier_load g d.passed) old) here are (busy_prefix g c (length answers) t ch d k old last held.1 prefix))
+    ])
 
 -- the lock is released, and the call is answered
 answered : (g : GeometryData) (c : ℕ) (tasks : List Task) (answers : List Answer) (waited : Bool) (t : Task) (a : Answer) (calls last : List CallEvent) (old : ℕ)
@@ -192,38 +216,51 @@ answered g c tasks answers waited t a calls last old here acts are decided =
 
 -- ---- a next act
 
+raising_change : (g : GeometryData) (t : Task) (ch : Change) (z : Size) (k : Kept) → IsStage g (stage.Raising ch z k) (Some t) → IsChangeOf t ch
+raising_change g t ch size.Two k fits = fits.0
+raising_change g t ch size.ThirtyTwo k fits = fits.0
+raising_change g t ch size.FiveTwelve k fits = fits.0
+
 -- any act at any stage of a task with acts
 walks : (g : GeometryData) (c : ℕ) (tasks : List Task) (answers : List Answer) (s : Stage) (waited : Bool) (t : Task) (calls last : List CallEvent) (next : Act) (old : ℕ)
-    → slice_get tasks (length answers) ≡ Some t → idle_answer g t ≡ None → is_look t ≡ false → AreCallEvents g c 0 tasks answers calls → IsPrefix g c (length answers) s (Some t) last → act_at g s t ≡ Some next
+    → slice_get tasks (length answers) ≡ Some t → idle_answer g t ≡ None → is_look t ≡ false → IsStage g s (Some t) → AreCallEvents g c 0 tasks answers calls → IsPrefix g c (length answers) s (Some t) last → act_at g s t ≡ Some next
     → HasWalked c (took_at (agent g tasks answers s waited) t s old) ((calls ++ last) ++ record { act = next; old = old; made = made_at g c (length answers) s (Some t) old } ∷ [])
-walks g c tasks answers stage.Locking waited t calls last next old here acts no_look are prefix e =
+walks g c tasks answers stage.Locking waited t calls last next old here acts no_look fits are prefix e =
     let same : take_act (lock_bit_of g t) ≡ next = cc in
     rw (← same) (locking g c tasks answers waited t calls last old here are prefix)
-walks g c tasks answers stage.Looking waited t calls last next old here acts no_look are prefix e =
+walks g c tasks answers stage.Looking waited t calls last next old here acts no_look fits are prefix e =
     let load = some_mapped act.Load (l1_place_of g (address_of t)) next e in
     rw (← load.2) (looking g c tasks answers waited t calls last load.0 old here are prefix load.1)
-walks g c tasks answers (stage.Reading z k) waited t calls last next old here acts no_look are prefix e =
+walks g c tasks answers (stage.Reading z k) waited t calls last next old here acts no_look fits are prefix e =
     let same : gen_load_of g z (address_of t) ≡ next = cc in
     let event : CallEvent = record { act = gen_load_of g z (address_of t); old = old; made = made_at g c (length answers) (stage.Reading z k) (Some t) old } in
     rw (← same) (goes_on g c tasks answers (read_stage g t z (kept_read z old k)) _ t calls last event here are (read_prefix g c (length answers) t z k old last acts no_look prefix))
-walks g c tasks answers (stage.Changing ch k) waited t calls last next old here acts no_look are prefix e =
+walks g c tasks answers (stage.Preparing k) waited t calls last next old here acts no_look fits are prefix e =
+    goes_on g c tasks answers (stage.Changing change.Last k) _ t calls last (plain next old) here are
+    (prepared_prefix g c (length answers) t k next old last e prefix)
+walks g c tasks answers (stage.Passing ch d k) waited t calls last next old here acts no_look fits are prefix e =
+    passing g c tasks answers waited t ch d k calls last next old here acts fits.0 are prefix e
+walks g c tasks answers (stage.Cleaning ch l k) waited t calls last next old here acts no_look fits are prefix e =
+    goes_on g c tasks answers (cleaned_stage g t ch l k) _ t calls last (plain next old) here are
+    (cleaned_prefix g c (length answers) t ch l k next old last acts fits.0 e prefix)
+walks g c tasks answers (stage.Changing ch k) waited t calls last next old here acts no_look fits are prefix e =
     let store = some_mapped (λ place. act.Store place (changed_word g t ch k.word)) (l1_place_of g (address_of t)) next e in
     let same : store.0 ≡ prefix.0 = let both : Some store.0 ≡ Some prefix.0 = sym store.1 ∙ prefix.1 in cc in
     let event : CallEvent = record { act = act.Store prefix.0 (changed_word g t ch k.word); old = old; made = change_entry g c (length answers) t ch ∷ [] } in
     rw (← store.2, same) (goes_on g c tasks answers (stage.Raising ch size.Two (kept_changed g t ch k)) _ t calls last event here are
     (prefix.0, prefix.1, one_made g c (length answers) t prefix.0 _ old _ _ _ last prefix.2))
-walks g c tasks answers (stage.Raising ch z k) waited t calls last next old here acts no_look are prefix e =
+walks g c tasks answers (stage.Raising ch z k) waited t calls last next old here acts no_look fits are prefix e =
     let same : gen_raise_of g z (address_of t) (generation_in z k.generations) ≡ next = cc in
     let event : CallEvent = record { act = gen_raise_of g z (address_of t) (generation_in z k.generations); old = old; made = made_at g c (length answers) (stage.Raising ch z k) (Some t) old } in
     rw (← same) (goes_on g c tasks answers (raised_stage g t ch z (kept_raised z k)) _ t calls last event here are
-    (raised_prefix g c (length answers) t ch z k old last acts prefix))
-walks g c tasks answers (stage.Releasing a) waited t calls last next old here acts no_look are prefix e =
+    (raised_prefix g c (length answers) t ch z k old last (raising_change g t ch z k fits) acts prefix))
+walks g c tasks answers (stage.Releasing a) waited t calls last next old here acts no_look fits are prefix e =
     let same : release_act (lock_bit_of g t) ≡ next = cc in
     rw (← same) (answered g c tasks answers waited t a calls last old here acts are prefix)
-walks g c tasks answers (stage.Splitting z d k) waited t calls last next old here acts no_look are prefix e =
+walks g c tasks answers (stage.Splitting z d k) waited t calls last next old here acts no_look fits are prefix e =
     goes_on g c tasks answers (split_stage t z (advanced d) k) _ t calls last (plain next old) here are
     (split_prefix g c (length answers) t z d k next old last (first_is_change t (acts_move g t acts no_look)) e prefix)
-walks g c tasks answers (stage.Merging f k) waited t calls last next old here acts no_look are prefix e =
+walks g c tasks answers (stage.Merging f k) waited t calls last next old here acts no_look fits are prefix e =
     goes_on g c tasks answers (merged_stage (fuse.took_of f old) k) _ t calls last (plain next old) here are
     (merged_prefix g c (length answers) t f k next old last e prefix)
 
@@ -233,7 +270,7 @@ took_walks : (c : ℕ) (a : AgentData) (o : Option Task) (calls last : List Call
     → HasWalked c (took_under_way a o old) ((calls ++ last) ++ record { act = next; old = old; made = made_at a.geometry c (length a.answers) a.stage o old } ∷ [])
 took_walks c a None calls last next old is here are prefix e = absurd (let both = rw here at e in cc)
 took_walks c a (Some t) calls last next old is here are prefix e =
-    walks a.geometry c a.tasks a.answers a.stage a.waited t calls last next old here (subst (HasActs a.geometry) here is.acts) (no_look_at a t is here) are prefix (rw here at e)
+    walks a.geometry c a.tasks a.answers a.stage a.waited t calls last next old here (subst (HasActs a.geometry) here is.acts) (no_look_at a t is here) (subst (IsStage a.geometry a.stage) here is.stage) are prefix (rw here at e)
 
 pub step_walks : (c : ℕ) (a : AgentData) (events : List CallEvent) (next : Act) (old : ℕ) → IsAgent a → HasWalked c a events → next_of a ≡ Some next
     → HasWalked c (took_of a old) (events ++ record { act = next; old = old; made = made_at a.geometry c (length a.answers) a.stage (task_of a) old } ∷ [])

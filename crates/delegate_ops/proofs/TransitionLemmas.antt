@@ -14,16 +14,21 @@ use Rattle.shared_words.specs.declared.act.Act.{Act}
 use Rattle.shatter.specs.Splitting.{SplittingData, advanced}
 use Rattle.fuse.specs.Merging.{FuseData}
 use Rattle.fuse.specs.Merging as fuse
+use Rattle.invalidate.specs.Barrier.{BarrierData, one_passed}
+use Rattle.invalidate.specs.Barrier as barrier
 use Rattle.history.specs.declared.call.Task.{Task}
+use Rattle.history.specs.declared.call.Task.TheVariants as task
 use Rattle.history.specs.declared.call.Answer.{Answer}
 use Rattle.delegate_ops.specs.declared.places.Places.{Places}
 use Rattle.delegate_ops.specs.declared.stage.Change.{Change}
 use Rattle.delegate_ops.specs.declared.stage.Change.TheVariants as change
+use Rattle.delegate_ops.specs.declared.stage.Line.{Line}
+use Rattle.delegate_ops.specs.declared.stage.Line.TheVariants as line
 use Rattle.delegate_ops.specs.declared.stage.Kept.{Kept}
 use Rattle.delegate_ops.specs.InnerStages.{Stage}
 use Rattle.delegate_ops.specs.InnerStages as stage
 use Rattle.delegate_ops.specs.Deciding.{idle_answer, looked_answer, worn_answer}
-use Rattle.delegate_ops.specs.InnerAgents.{AgentData, IsReadable, is_look, task_of, act_at, next_of, is_held, stage_after, took_at, took_of, took_under_way, after_answer, waits_at, goes_to, looked_stage, loaded_stage, read_all, read_stage, split_stage, merging_stage, raised_stage, kept_read, kept_raised}
+use Rattle.delegate_ops.specs.InnerAgents.{AgentData, IsReadable, is_look, task_of, act_at, next_of, is_held, stage_after, took_at, took_of, took_under_way, after_answer, waits_at, goes_to, looked_stage, loaded_stage, read_all, read_stage, split_stage, merging_stage, first_stage, passed_stage, passing_stage, cleaned_stage, raised_stage, kept_read, kept_raised}
 use Rattle.delegate_ops.specs.InnerTransition.{TransitionData, IsTransition, KeepsDescriptor, IsUnderWay, places_of, begun, act_by, next_by, is_held_by, answer_by, unended, after_by, stage_in, waited_in}
 use Rattle.delegate_ops.proofs.PlaceLemmas.{same_act, same_held}
 use Rattle.delegate_ops.proofs.AgentLemmas.{stage_fits, acts_move, locking_fits}
@@ -34,10 +39,16 @@ looked_keeps : (o : Option Answer) (word : ℕ) → IsTrue (is_some (l1_entry wo
 looked_keeps None word readable = readable
 looked_keeps (Some refused) word readable = tt
 
+first_keeps : (t : Task) (k : Kept) → KeepsDescriptor (first_stage t k)
+first_keeps (task.Delegate pa source) k = tt
+first_keeps (task.Undelegate pa source) k = tt
+first_keeps task.Unknown k = tt
+first_keeps (task.Look pa space) k = tt
+
 loaded_keeps : (g : GeometryData) (t : Task) (e : Option L1Entry) (k : Kept) → KeepsDescriptor (loaded_stage g t e k)
 loaded_keeps g t (Some (l1.Contig z v)) k = tt
-loaded_keeps g t (Some (l1.Granules word)) k = tt
-loaded_keeps g t None k = tt
+loaded_keeps g t (Some (l1.Granules word)) k = first_keeps t k
+loaded_keeps g t None k = first_keeps t k
 
 read_all_keeps : (g : GeometryData) (o : Option Answer) (t : Task) (k : Kept) → KeepsDescriptor (read_all g o t k)
 read_all_keeps g None t k = loaded_keeps g t (l1_entry k.word) k
@@ -49,24 +60,41 @@ read_keeps g t size.ThirtyTwo k readable = readable
 read_keeps g t size.FiveTwelve k readable = read_all_keeps g (worn_answer k.generations) t k
 
 pub split_keeps : (t : Task) (z : Size) (d : SplittingData) (k : Generations) → KeepsDescriptor (split_stage t z d k)
-split_keeps t z d k = elim (cases_Bool (ltb d.made d.words)) [ inl more ↦ rw more tt | inr over ↦ rw over tt ]
+split_keeps t z d k = elim (cases_Bool (ltb d.made d.words)) [ inl more ↦ rw more tt | inr over ↦ rw over (first_keeps t _) ]
 
 pub merging_keeps : (o : Option Act) (f : FuseData) (k : Generations) → KeepsDescriptor (merging_stage o f k)
 merging_keeps None f k = tt
 merging_keeps (Some next) f k = tt
 
+passed_keeps : (g : GeometryData) (t : Task) (c : Change) (k : Kept) → KeepsDescriptor (passed_stage g t c k)
+passed_keeps g (task.Undelegate pa source) change.Last k = merging_keeps _ _ _
+passed_keeps g (task.Undelegate pa source) change.First k = tt
+passed_keeps g (task.Delegate pa source) c k = tt
+passed_keeps g task.Unknown c k = tt
+passed_keeps g (task.Look pa space) c k = tt
+
+passing_keeps : (g : GeometryData) (t : Task) (c : Change) (d : BarrierData) (k : Kept) → KeepsDescriptor (passing_stage g t c d k)
+passing_keeps g t c d k = elim (cases_Bool (ltb d.passed d.cpus)) [ inl more ↦ rw more tt | inr over ↦ rw over (passed_keeps g t c k) ]
+
+cleaned_keeps : (g : GeometryData) (t : Task) (c : Change) (l : Line) (k : Kept) → KeepsDescriptor (cleaned_stage g t c l k)
+cleaned_keeps g t change.First line.Former k = tt
+cleaned_keeps g t change.First line.NonSecure k = tt
+cleaned_keeps g t change.Last l k = merging_keeps _ _ _
+
 raised_keeps : (g : GeometryData) (t : Task) (c : Change) (z : Size) (k : Kept) → KeepsDescriptor (raised_stage g t c z k)
 raised_keeps g t c size.Two k = tt
 raised_keeps g t c size.ThirtyTwo k = tt
-raised_keeps g t change.First size.FiveTwelve k = tt
-raised_keeps g t change.Last size.FiveTwelve k = merging_keeps _ _ _
+raised_keeps g t c size.FiveTwelve k = passing_keeps g t c (barrier.begun g.cpus) k
 
 stage_keeps : (g : GeometryData) (t : Task) (s : Stage) (old : ℕ) → KeepsDescriptor s → IsReadable s old → KeepsDescriptor (stage_after g t s old)
 stage_keeps g t stage.Locking old kept readable = tt
 stage_keeps g t stage.Looking old kept readable = looked_keeps (looked_answer g t old) old readable
 stage_keeps g t (stage.Reading z k) old kept readable = read_keeps g t z (kept_read z old k) kept
 stage_keeps g t (stage.Splitting z d k) old kept readable = split_keeps t z (advanced d) k
+stage_keeps g t (stage.Preparing k) old kept readable = tt
 stage_keeps g t (stage.Changing c k) old kept readable = tt
+stage_keeps g t (stage.Passing c d k) old kept readable = passing_keeps g t c (one_passed d) k
+stage_keeps g t (stage.Cleaning c l k) old kept readable = cleaned_keeps g t c l k
 stage_keeps g t (stage.Raising c z k) old kept readable = raised_keeps g t c z (kept_raised z k)
 stage_keeps g t (stage.Merging f k) old kept readable = merging_keeps _ (fuse.took_of f old) k
 stage_keeps g t (stage.Releasing given) old kept readable = tt
@@ -103,7 +131,10 @@ no_answer stage.Locking other = refl
 no_answer stage.Looking other = refl
 no_answer (stage.Reading z k) other = refl
 no_answer (stage.Splitting z d k) other = refl
+no_answer (stage.Preparing k) other = refl
 no_answer (stage.Changing c k) other = refl
+no_answer (stage.Passing c d k) other = refl
+no_answer (stage.Cleaning c l k) other = refl
 no_answer (stage.Raising c z k) other = refl
 no_answer (stage.Merging f k) other = refl
 no_answer (stage.Releasing given) other = absurd (other given refl)
@@ -146,17 +177,17 @@ some_under_way g o u d is there = ap is_some (under_way_at g o d (subst (IsUnder
 abbrev pub agent_of : GeometryData → List Task → List Answer → Option TransitionData → AgentData
 agent_of g tasks answers u = record { geometry = g; tasks = tasks; answers = answers; stage = stage_in u; waited = waited_in u }
 
-next_at : (a : AgentData) (d : TransitionData) → IsUnderWay a.geometry (task_of a) (Some d) → a.stage ≡ d.stage → next_by d ≡ next_of a
+next_at : (a : AgentData) (d : TransitionData) → IsUnderWay a.geometry (task_of a) (Some d) → a.stage ≡ d.stage → next_by a.geometry d ≡ next_of a
 next_at a d under_way at =
     let here = under_way_at a.geometry (task_of a) d under_way in
-    ap (λ (p : Places). act_by p d.stage d.task) here.1.places
+    ap (λ (p : Places). act_by a.geometry p d.stage d.task) here.1.places
     ∙ same_act a.geometry d.task d.stage here.1.acts
     ∙ ap (λ (s : Stage). act_at a.geometry s d.task) (sym at)
     ∙ sym (rw here.0 refl)
 
 -- its next act is the agent's
 pub next_is : (g : GeometryData) (tasks : List Task) (answers : List Answer) (u : Option TransitionData) (d : TransitionData)
-    → IsUnderWay g (slice_get tasks (length answers)) u → u ≡ Some d → next_by d ≡ next_of (agent_of g tasks answers u)
+    → IsUnderWay g (slice_get tasks (length answers)) u → u ≡ Some d → next_by g d ≡ next_of (agent_of g tasks answers u)
 next_is g tasks answers u d under_way there =
     next_at (agent_of g tasks answers u) d (subst (IsUnderWay g (slice_get tasks (length answers))) there under_way) (ap stage_in there)
 
@@ -167,7 +198,10 @@ goes_at a t stage.Locking old none = refl
 goes_at a t stage.Looking old none = refl
 goes_at a t (stage.Reading z k) old none = refl
 goes_at a t (stage.Splitting z d k) old none = refl
+goes_at a t (stage.Preparing k) old none = refl
 goes_at a t (stage.Changing c k) old none = refl
+goes_at a t (stage.Passing c d k) old none = refl
+goes_at a t (stage.Cleaning c l k) old none = refl
 goes_at a t (stage.Raising c z k) old none = refl
 goes_at a t (stage.Merging f k) old none = refl
 goes_at a t (stage.Releasing given) old none = absurd cc
@@ -177,7 +211,10 @@ ends_at a t stage.Locking given old some = absurd cc
 ends_at a t stage.Looking given old some = absurd cc
 ends_at a t (stage.Reading z k) given old some = absurd cc
 ends_at a t (stage.Splitting z d k) given old some = absurd cc
+ends_at a t (stage.Preparing k) given old some = absurd cc
 ends_at a t (stage.Changing c k) given old some = absurd cc
+ends_at a t (stage.Passing c d k) given old some = absurd cc
+ends_at a t (stage.Cleaning c l k) given old some = absurd cc
 ends_at a t (stage.Raising c z k) given old some = absurd cc
 ends_at a t (stage.Merging f k) given old some = absurd cc
 ends_at a t (stage.Releasing x) given old some = ap (after_answer a) (let same : x ≡ given = cc in same)

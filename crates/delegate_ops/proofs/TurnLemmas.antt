@@ -58,9 +58,9 @@ is_still g d e old next after still =
     still_next next d.waited e.waited waits.0 (ap (λ (x : TransitionData). x.waited) after ∙ waits.1)
 
 -- what the agent's next act may be made on, and answer, the transition's may
-pub may_turn : (a : AgentData) (b : AgentData) (d : TransitionData) (words : List ℕ) → a ≡ b → next_by d ≡ next_of a → a.stage ≡ d.stage
+pub may_turn : (a : AgentData) (b : AgentData) (d : TransitionData) (words : List ℕ) → a ≡ b → next_by a.geometry d ≡ next_of a → a.stage ≡ d.stage
     → MayBeMade (next_of b) words → IsReadable b.stage (old_by (next_of b) words)
-    → MayBeMade (next_by d) words × IsReadable d.stage (old_by (next_by d) words)
+    → MayBeMade (next_by a.geometry d) words × IsReadable d.stage (old_by (next_by a.geometry d) words)
 may_turn a b d words is next at place readable =
     let same = next ∙ ap next_of is in (
       subst (λ (o : Option Act). MayBeMade o words) (sym same) place,
@@ -84,11 +84,11 @@ by_transition g tasks answers u e is under_way = record {
 }
 
 -- the agent's turn, and the words after it
-pub turned_words : (a b : AgentData) (d : TransitionData) (before after : List ℕ) → a ≡ b → next_by d ≡ next_of a → after ≡ words_after (next_by d) before
+pub turned_words : (a b : AgentData) (d : TransitionData) (before after : List ℕ) → a ≡ b → next_by a.geometry d ≡ next_of a → after ≡ words_after (next_by a.geometry d) before
     → after ≡ words_after (next_of b) before
 turned_words a b d before after is next made = made ∙ ap (λ (o : Option Act). words_after o before) (next ∙ ap next_of is)
 
-pub turned_agent : (a b x : AgentData) (d : TransitionData) (words : List ℕ) → a ≡ b → next_by d ≡ next_of a → x ≡ took_of a (old_by (next_by d) words)
+pub turned_agent : (a b x : AgentData) (d : TransitionData) (words : List ℕ) → a ≡ b → next_by a.geometry d ≡ next_of a → x ≡ took_of a (old_by (next_by a.geometry d) words)
     → x ≡ took_of b (old_by (next_of b) words)
 turned_agent a b x d words is next took =
     took ∙ ap (λ (o : Option Act). took_of a (old_by o words)) next ∙ ap (λ (y : AgentData). took_of y (old_by (next_of y) words)) is

@@ -1,9 +1,13 @@
--- What a transition changes: the GPI of its granule in the L1 word, the generations around it, and,
--- before that, the words of a contiguous block that holds it (TF-A gpt_rme, shattering of contiguous
--- descriptors).
+-- What a transition changes: the GPI of its granule in the L1 word, the generations around it, the
+-- lines of its granule, and, before that, the words of a contiguous block that holds it (TF-A
+-- gpt_rme, shattering of contiguous descriptors).
 use Rattle.std.specs.Prelude.{ℕ, ◌+◌, ◌-◌, ◌/◌, ◌%◌, List, [], Option, Some}
 use Rattle.gpi_values.specs.declared.gpi.Gpi.{Gpi}
 use Rattle.gpi_values.specs.declared.gpi.Gpi.TheVariants as gpi
+use Rattle.gpi_values.specs.declared.gpi.Space.{Space}
+use Rattle.gpi_values.specs.declared.gpi.Space.TheVariants as space
+use Rattle.gpi_values.specs.declared.security.Source.{Source}
+use Rattle.gpi_values.specs.declared.security.Source.TheVariants as source
 use Rattle.gpi_values.specs.Values.{value_of, own_of}
 use Rattle.gpt_descriptors.specs.declared.size.Size.{Size}
 use Rattle.gpt_descriptors.specs.declared.size.Generations.{Generations}
@@ -20,6 +24,8 @@ use Rattle.history.specs.declared.call.Task.{Task}
 use Rattle.history.specs.declared.call.Task.TheVariants as task
 use Rattle.delegate_ops.specs.declared.stage.Change.{Change}
 use Rattle.delegate_ops.specs.declared.stage.Change.TheVariants as change
+use Rattle.delegate_ops.specs.declared.stage.Line.{Line}
+use Rattle.delegate_ops.specs.declared.stage.Line.TheVariants as line
 use Rattle.delegate_ops.specs.Deciding.{address_of, granule_place, generation_in}
 
 -- the first change that a transition makes: a delegate has the last one alone
@@ -53,6 +59,28 @@ raised k = record {
   thirty_two = k.thirty_two + 1;
   five_twelve = k.five_twelve + 1;
 }
+
+-- ---- the spaces whose lines of the granule are cleaned
+
+-- the space of a source
+abbrev pub own_space : Source → Space
+own_space source.Realm = space.Realm
+own_space source.Secure = space.Secure
+
+-- a delegate cleans that of its target before its change
+abbrev pub target_space : Task → Space
+target_space (task.Delegate pa source) = own_space source
+target_space t = space.NonSecure
+
+-- and each change is followed by cleaning of the one that its former GPI permits, which is none
+-- after no access
+abbrev pub former_space : Task → Change → Space
+former_space (task.Undelegate pa source) change.First = own_space source
+former_space t c = space.NonSecure
+
+abbrev pub space_of_line : Task → Change → Line → Space
+space_of_line t c line.Former = former_space t c
+space_of_line t c line.NonSecure = space.NonSecure
 
 -- ---- splitting of a contiguous block, before the change
 

@@ -20,18 +20,23 @@ use Rattle.shared_words.specs.declared.act.Act.{Act}
 use Rattle.shared_words.specs.declared.act.Act.TheVariants as act
 use Rattle.bit_locks.specs.Locks.{take_act, release_act}
 use Rattle.invalidate.specs.Generations.{gen_load_of, gen_raise_of}
+use Rattle.invalidate.specs.Barrier.{BarrierData, next_load, one_passed}
+use Rattle.invalidate.specs.Barrier as barrier
+use Rattle.alias_clean.specs.Lines.{clean_of}
 use Rattle.history.specs.declared.call.Task.{Task}
 use Rattle.history.specs.declared.call.Task.TheVariants as task
 use Rattle.history.specs.declared.call.Answer.{Answer}
 use Rattle.history.specs.declared.call.Answer.TheVariants as answer
 use Rattle.delegate_ops.specs.declared.stage.Change.{Change}
 use Rattle.delegate_ops.specs.declared.stage.Change.TheVariants as change
+use Rattle.delegate_ops.specs.declared.stage.Line.{Line}
+use Rattle.delegate_ops.specs.declared.stage.Line.TheVariants as line
 use Rattle.delegate_ops.specs.declared.stage.Kept.{Kept}
 pub use Rattle.delegate_ops.specs.InnerStages.{Stage, kept_read}
 use Rattle.delegate_ops.specs.InnerStages as stage
 pub use Rattle.delegate_ops.specs.Deciding.{is_look}
 use Rattle.delegate_ops.specs.Deciding.{address_of, idle_answer, looked_answer, generation_in, worn_answer}
-use Rattle.delegate_ops.specs.Changing.{first_change, changed_word, raised_at, word_in_block, splitting_of}
+use Rattle.delegate_ops.specs.Changing.{first_change, changed_word, raised_at, target_space, space_of_line, word_in_block, splitting_of}
 use Rattle.delegate_ops.specs.Script.{lock_bit_of}
 
 pub record AgentData : Type 0 where
@@ -80,10 +85,13 @@ act_at g stage.Locking t = Some (take_act (lock_bit_of g t))
 act_at g stage.Looking t = option_map act.Load (l1_place_of g (address_of t))
 act_at g (stage.Reading z k) t = Some (gen_load_of g z (address_of t))
 act_at g (stage.Splitting z d k) t = next_store d
+act_at g (stage.Preparing k) t = clean_of g (address_of t) (target_space t)
 act_at g (stage.Changing c k) t =
     option_map (λ place. act.Store place (changed_word g t c k.word)) (l1_place_of g (address_of t))
 act_at g (stage.Raising c z k) t =
     Some (gen_raise_of g z (address_of t) (generation_in z k.generations))
+act_at g (stage.Passing c d k) t = next_load g d
+act_at g (stage.Cleaning c l k) t = clean_of g (address_of t) (space_of_line t c l)
 act_at g (stage.Merging f k) t = fuse.next_of f
 act_at g (stage.Releasing answer) t = Some (release_act (lock_bit_of g t))
 
@@ -135,12 +143,17 @@ looked_stage None word = stage.Reading size.Two (record {
   generations = record { two = 0; thirty_two = 0; five_twelve = 0 };
 })
 
+-- where it goes on to its first change
+abbrev pub first_stage : Task → Kept → Stage
+first_stage (task.Delegate pa source) k = stage.Preparing k
+first_stage t k = stage.Changing (first_change t) k
+
 -- where it goes on with all generations loaded, and worn so, if they are
 abbrev pub loaded_stage : GeometryData → Task → Option L1Entry → Kept → Stage
 loaded_stage g t (Some (l1.Contig z v)) k =
     stage.Splitting z (splitting_of g (address_of t) (number_of (l1_place_of g
     (address_of t))) z v) k.generations
-loaded_stage g t e k = stage.Changing (first_change t) k
+loaded_stage g t e k = first_stage t k
 
 abbrev pub read_all : GeometryData → Option Answer → Task → Kept → Stage
 read_all g (Some worn) t k = stage.Releasing worn
@@ -156,7 +169,7 @@ read_stage g t size.FiveTwelve k = read_all g (worn_answer k.generations) t k
 abbrev pub split_stage : Task → Size → SplittingData → Generations → Stage
 split_stage t z d k =
     if nat_lt d.made d.words then stage.Splitting z d k else
-    stage.Changing (first_change t) (record { word = granules_of d.gpi; generations = k })
+    first_stage t (record { word = granules_of d.gpi; generations = k })
 
 -- where it goes on that has made this much of merging
 abbrev pub merging_stage : Option Act → FuseData → Generations → Stage
@@ -166,13 +179,33 @@ merging_stage None f k = stage.Releasing (answer.Done k)
 abbrev pub merged_stage : FuseData → Generations → Stage
 merged_stage f k = merging_stage (fuse.next_of f) f k
 
+-- where it goes on to merging, and releases its lock where that has no acts
+abbrev pub last_stage : GeometryData → Task → Kept → Stage
+last_stage g t k =
+    merged_stage (fuse.fuse_of g (number_of (l1_index_of g (address_of t))) k.word) k.generations
+
+-- where it goes on that has passed all processors after a change
+abbrev pub passed_stage : GeometryData → Task → Change → Kept → Stage
+passed_stage g (task.Undelegate pa source) change.Last k =
+    last_stage g (task.Undelegate pa source) k
+passed_stage g t c k = stage.Cleaning c line.Former k
+
+-- where it goes on that has come so far in the barrier after a change
+abbrev pub passing_stage : GeometryData → Task → Change → BarrierData → Kept → Stage
+passing_stage g t c d k =
+    if nat_lt d.passed d.cpus then stage.Passing c d k else passed_stage g t c k
+
+-- where it goes on that has cleaned a line after a change
+abbrev pub cleaned_stage : GeometryData → Task → Change → Line → Kept → Stage
+cleaned_stage g t change.First line.Former k = stage.Cleaning change.First line.NonSecure k
+cleaned_stage g t change.First line.NonSecure k = stage.Changing change.Last k
+cleaned_stage g t change.Last l k = last_stage g t k
+
 -- where it goes on that has raised the generation of this size
 abbrev pub raised_stage : GeometryData → Task → Change → Size → Kept → Stage
 raised_stage g t c size.Two k = stage.Raising c size.ThirtyTwo k
 raised_stage g t c size.ThirtyTwo k = stage.Raising c size.FiveTwelve k
-raised_stage g t change.First size.FiveTwelve k = stage.Changing change.Last k
-raised_stage g t change.Last size.FiveTwelve k =
-    merged_stage (fuse.fuse_of g (number_of (l1_index_of g (address_of t))) k.word) k.generations
+raised_stage g t c size.FiveTwelve k = passing_stage g t c (barrier.begun g.cpus) k
 
 -- what is kept after an act
 abbrev pub kept_changed : GeometryData → Task → Change → Kept → Kept
@@ -188,14 +221,18 @@ stage_after g t stage.Locking old = stage.Looking
 stage_after g t stage.Looking old = looked_stage (looked_answer g t old) old
 stage_after g t (stage.Reading z k) old = read_stage g t z (kept_read z old k)
 stage_after g t (stage.Splitting z d k) old = split_stage t z (advanced d) k
+stage_after g t (stage.Preparing k) old = stage.Changing change.Last k
 stage_after g t (stage.Changing c k) old = stage.Raising c size.Two (kept_changed g t c k)
 stage_after g t (stage.Raising c z k) old = raised_stage g t c z (kept_raised z k)
+stage_after g t (stage.Passing c d k) old = passing_stage g t c (one_passed d) k
+stage_after g t (stage.Cleaning c l k) old = cleaned_stage g t c l k
 stage_after g t (stage.Merging f k) old = merged_stage (fuse.took_of f old) k
 stage_after g t (stage.Releasing given) old = stage.Releasing given
 
--- the act was a lock that wasn't free
+-- the act was a lock that wasn't free, or a load of a duty word that wasn't 0
 abbrev pub is_held : GeometryData → Task → Stage → ℕ → Bool
 is_held g t stage.Locking old = not (bit_and old (lock_bit_of g t).mask == 0)
+is_held g t (stage.Passing c d k) old = not (old == 0)
 is_held g t s old = false
 
 -- the agent after the act of a task at a stage that answered this word
@@ -234,6 +271,17 @@ abbrev pub IsChangeOf : Task → Change → Type 0
 IsChangeOf (task.Delegate pa source) change.Last = Unit {0}
 IsChangeOf (task.Undelegate pa source) c = Unit {0}
 IsChangeOf t c = ⊥
+
+-- it cleans a line before its change
+abbrev pub IsPrepared : Task → Type 0
+IsPrepared (task.Delegate pa source) = Unit {0}
+IsPrepared t = ⊥
+
+-- it cleans this line after this change
+abbrev pub IsCleaned : Task → Change → Line → Type 0
+IsCleaned (task.Delegate pa source) change.Last line.Former = Unit {0}
+IsCleaned (task.Undelegate pa source) change.First l = Unit {0}
+IsCleaned t c l = ⊥
 
 -- each generation can be raised so often before it passes the last one
 pub record HasRoom (k : Generations) (l m n : ℕ) : Type 0 where
@@ -274,12 +322,19 @@ pub record IsMergingOf (g : GeometryData) (pa : ℕ) (f : FuseData) : Type 0 whe
   pub counted : fuse.IsCounted f.two f.step
   pub some : IsSome (fuse.next_of f)
 
+-- the next act of a barrier is a load of the duty word of a processor
+pub record IsBarrierOf (g : GeometryData) (d : BarrierData) : Type 0 where
+  pub cpus : d.cpus ≡ g.cpus
+  pub low : nat_lt d.passed d.cpus ≡ true
+
 -- an agent without a call left is where it began
 abbrev pub IsStage : GeometryData → Stage → Option Task → Type 0
 IsStage g s None = s ≡ stage.Locking
 IsStage g (stage.Splitting z d k) (Some t) =
     IsSplittingOf g (address_of t) z d × IsChangeOf t (first_change t)
     × HasRoomFor (raises_from (first_change t)) k
+IsStage g (stage.Preparing k) (Some t) =
+    IsPrepared t × HasRoomFor (raises_from change.Last) k.generations
 IsStage g (stage.Changing c k) (Some t) = IsChangeOf t c × HasRoomFor (raises_from c) k.generations
 IsStage g (stage.Raising c size.Two k) (Some t) =
     IsChangeOf t c × HasRoomFor (raises_from c) k.generations
@@ -287,6 +342,10 @@ IsStage g (stage.Raising c size.ThirtyTwo k) (Some t) =
     IsChangeOf t c × HasRoom k.generations (raises_after c) (raises_from c) (raises_from c)
 IsStage g (stage.Raising c size.FiveTwelve k) (Some t) =
     IsChangeOf t c × HasRoom k.generations (raises_after c) (raises_after c) (raises_from c)
+IsStage g (stage.Passing c d k) (Some t) =
+    IsChangeOf t c × IsBarrierOf g d × HasRoomFor (raises_after c) k.generations
+IsStage g (stage.Cleaning c l k) (Some t) =
+    IsCleaned t c l × HasRoomFor (raises_after c) k.generations
 IsStage g (stage.Merging f k) (Some t) = IsMergingOf g (address_of t) f
 IsStage g s (Some t) = Unit {0}
 

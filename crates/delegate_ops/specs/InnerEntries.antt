@@ -37,11 +37,18 @@ entries_before g c k (task.Undelegate pa source) change.Last =
     ∷ completion g c k (task.Undelegate pa source) ∷ []
 entries_before g c k t ch = []
 
+-- and with that change completed
+abbrev pub entries_after : GeometryData → ℕ → ℕ → Task → Change → List Entry
+entries_after g c k t ch =
+    entries_before g c k t ch ++ change_entry g c k t ch ∷ completion g c k t ∷ []
+
 -- the entries that the call under way has made at a stage
 abbrev pub entries_at : GeometryData → ℕ → ℕ → Stage → Option Task → List Entry
 entries_at g c k (stage.Changing ch kept) (Some t) = entries_before g c k t ch
 entries_at g c k (stage.Raising ch z kept) (Some t) =
     entries_before g c k t ch ++ change_entry g c k t ch ∷ []
+entries_at g c k (stage.Passing ch d kept) (Some t) = entries_after g c k t ch
+entries_at g c k (stage.Cleaning ch l kept) (Some t) = entries_after g c k t ch
 entries_at g c k (stage.Merging f kept) (Some t) = entries_of g c k t (answer.Done kept)
 entries_at g c k (stage.Releasing given) (Some t) = entries_of g c k t given
 entries_at g c k s t = []

@@ -1,5 +1,6 @@
 -- A transition by where its acts are made: places that are worked out once, when its call begins.
 use Rattle.std.specs.Prelude.{◌≡◌, ℕ, ◌+◌, Bool, false, not, ◌==◌, true, ◌&&◌, List, Option, Some, None, IsTrue, is_some, if◌then◌else◌}
+use Rattle.std.specs.Int.{bit_not, w64}
 use Rattle.std.specs.Int.Bits.{bit_and}
 use Rattle.gpi_values.specs.Values.{value_of}
 use Rattle.gpt_descriptors.specs.declared.size.Size.{Size}
@@ -7,11 +8,14 @@ use Rattle.gpt_descriptors.specs.declared.size.Size.TheVariants as size
 use Rattle.gpt_descriptors.specs.Sizes.{generation_in}
 use Rattle.gpt_descriptors.specs.Entries.{l1_entry}
 use Rattle.gpt_descriptors.specs.Fields.{with_field}
-use Rattle.gpt_descriptors.specs.Places.{GeometryData, IsGeometry, l1_place_of, gen_place_of}
+use Rattle.gpi_values.specs.declared.gpi.Space.{Space}
+use Rattle.gpt_descriptors.specs.Places.{GeometryData, IsGeometry, l1_place_of, line_place_of, gen_place_of}
 use Rattle.shared_words.specs.declared.act.Act.{Act}
 use Rattle.shared_words.specs.declared.act.Act.TheVariants as act
 use Rattle.shared_words.specs.Next.{old_by}
 use Rattle.bit_locks.specs.Locks.{take_act, release_act}
+use Rattle.invalidate.specs.Barrier.{next_load}
+use Rattle.alias_clean.specs.Lines.{mask_of}
 use Rattle.history.specs.declared.call.Task.{Task}
 use Rattle.history.specs.declared.call.Task.TheVariants as task
 use Rattle.history.specs.declared.call.Answer.{Answer}
@@ -26,7 +30,7 @@ use Rattle.delegate_ops.specs.declared.progress.Turned.{Turned}
 use Rattle.delegate_ops.specs.declared.progress.Turned.TheVariants as turned
 use Rattle.delegate_ops.specs.InnerStages.{stage_of, waits_in}
 use Rattle.delegate_ops.specs.Deciding.{address_of, granule_place, idle_answer}
-use Rattle.delegate_ops.specs.Changing.{to_of}
+use Rattle.delegate_ops.specs.Changing.{to_of, target_space, space_of_line}
 use Rattle.delegate_ops.specs.Script.{lock_bit_of}
 use Rattle.delegate_ops.specs.InnerAgents.{IsStage, number_of, stage_after}
 
@@ -43,6 +47,7 @@ places_of g t = record {
   lock = lock_bit_of g t;
   word = number_of (l1_place_of g (address_of t));
   field = granule_place g (address_of t);
+  line = number_of (line_place_of g (address_of t));
   two = gen_place_of g size.Two (address_of t);
   thirty_two = gen_place_of g size.ThirtyTwo (address_of t);
   five_twelve = gen_place_of g size.FiveTwelve (address_of t);
@@ -64,24 +69,40 @@ begun g t = record { task = t; places = places_of g t; stage = stage.Locking; wa
 abbrev pub word_after : Places → Task → Change → ℕ → ℕ
 word_after p t c word = with_field word p.field (value_of (to_of t c))
 
-abbrev pub act_by : Places → Stage → Task → Option Act
-act_by p stage.Locking t = Some (take_act p.lock)
-act_by p stage.Looking t = Some (act.Load p.word)
-act_by p (stage.Reading z k) t = Some (act.Load (generation_place p z))
-act_by p (stage.Splitting z d k) t = next_store d
-act_by p (stage.Changing c k) t = Some (act.Store p.word (word_after p t c k.word))
-act_by p (stage.Raising c z k) t =
+-- the clean of the line of its granule and a space
+abbrev pub clean_by : Places → Space → Act
+clean_by p s = act.And p.line (bit_not w64 (mask_of p.field s))
+
+abbrev pub act_by : GeometryData → Places → Stage → Task → Option Act
+act_by g p stage.Locking t = Some (take_act p.lock)
+act_by g p stage.Looking t = Some (act.Load p.word)
+act_by g p (stage.Reading z k) t = Some (act.Load (generation_place p z))
+act_by g p (stage.Splitting z d k) t = next_store d
+act_by g p (stage.Preparing k) t = Some (clean_by p (target_space t))
+act_by g p (stage.Changing c k) t = Some (act.Store p.word (word_after p t c k.word))
+act_by g p (stage.Raising c z k) t =
     Some (act.Store (generation_place p z) (generation_in z k.generations + 1))
-act_by p (stage.Merging f k) t = fuse.next_of f
-act_by p (stage.Releasing answer) t = Some (release_act p.lock)
+act_by g p (stage.Passing c d k) t = next_load g d
+act_by g p (stage.Cleaning c l k) t = Some (clean_by p (space_of_line t c l))
+act_by g p (stage.Merging f k) t = fuse.next_of f
+act_by g p (stage.Releasing answer) t = Some (release_act p.lock)
 
-abbrev pub next_by : TransitionData → Option Act
-next_by d = act_by d.places d.stage d.task
+abbrev pub next_by : GeometryData → TransitionData → Option Act
+next_by g d = act_by g d.places d.stage d.task
 
--- the act was a lock that wasn't free
+-- the act was a lock that wasn't free, or a load of a duty word that wasn't 0
 abbrev pub is_held_by : Places → Stage → ℕ → Bool
 is_held_by p stage.Locking old = not (bit_and old p.lock.mask == 0)
+is_held_by p (stage.Passing c d k) old = not (old == 0)
 is_held_by p s old = false
+
+-- the next act writes a word of its granule or a generation around it
+abbrev pub IsWriting : Stage → Type 0
+IsWriting (stage.Preparing k) = Unit {0}
+IsWriting (stage.Changing c k) = Unit {0}
+IsWriting (stage.Raising c z k) = Unit {0}
+IsWriting (stage.Cleaning c l k) = Unit {0}
+IsWriting s = ⊥
 
 -- the answer with which its next act, the release of its lock, ends it
 abbrev pub answer_by : Stage → Option Answer
@@ -132,11 +153,11 @@ at_progress t p q =
     record { task = t; places = p; stage = stage_of q; waited = waits_in q.phase }
 
 -- its next act, and what that answers on these words
-abbrev pub next_in : Task → Places → Progress → Option Act
-next_in t p q = next_by (at_progress t p q)
+abbrev pub next_in : GeometryData → Task → Places → Progress → Option Act
+next_in g t p q = next_by g (at_progress t p q)
 
-abbrev pub old_in : Task → Places → Progress → List ℕ → ℕ
-old_in t p q words = old_by (next_in t p q) words
+abbrev pub old_in : GeometryData → Task → Places → Progress → List ℕ → ℕ
+old_in g t p q words = old_by (next_in g t p q) words
 
 -- it is at this stage, and doesn't wait
 abbrev pub GoesTo : Progress → Stage → Type 0

@@ -1,16 +1,19 @@
 -- The script of a transition: its acts in their order, each with the word that it answered and the
 -- entries that it makes in the history. It goes through what TF-A's gpt_delegate_pas and
 -- gpt_undelegate_pas do, with splitting (shattering) first and merging (fusing) last, in an order of
--- this project's own. An agent is shown to follow it. Cleaning and the barrier are not in it yet.
-use Rattle.std.specs.Prelude.{◌≡◌, ◌≢◌, ◌⊎◌, ℕ, ◌+◌, ◌/◌, List, [], ◌∷◌, ◌++◌, length, map, slice_get, Option, Some, None, MatchOption}
+-- this project's own. An agent is shown to follow it.
+use Rattle.std.specs.Prelude.{◌≡◌, ◌≢◌, ◌⊎◌, ℕ, zero, suc, ◌+◌, ◌/◌, List, [], ◌∷◌, ◌++◌, length, map, slice_get, Option, Some, None, MatchOption}
 use Rattle.std.specs.List.{All}
 use Rattle.std.specs.Int.Bits.{bit_and}
+use Rattle.gpi_values.specs.declared.gpi.Space.{Space}
+use Rattle.gpi_values.specs.declared.gpi.Space.TheVariants as space
 use Rattle.gpt_descriptors.specs.declared.size.Size.TheVariants as size
 use Rattle.gpt_descriptors.specs.declared.size.Generations.{Generations}
 use Rattle.gpt_descriptors.specs.Sizes.{granule_bytes}
 use Rattle.gpt_descriptors.specs.Entries.{l1_entry}
 use Rattle.gpt_descriptors.specs.Places.{GeometryData, l1_index_of, l1_place_of}
 use Rattle.shared_words.specs.Events.{Event}
+use Rattle.shared_words.specs.declared.act.Act.{Act}
 use Rattle.shared_words.specs.declared.act.Act.TheVariants as act
 use Rattle.fuse.specs.declared.outcome.Fused.{Fused}
 use Rattle.fuse.specs.Merging.{around_of}
@@ -18,6 +21,8 @@ use Rattle.fuse.specs.Script.{IsMerging}
 use Rattle.bit_locks.specs.declared.lock.Bit.{Bit}
 use Rattle.bit_locks.specs.Locks.{lock_number, bit_with, take_act, release_act}
 use Rattle.invalidate.specs.Generations.{gen_load_of, gen_raise_of}
+use Rattle.invalidate.specs.Duty.{barrier_load}
+use Rattle.alias_clean.specs.Lines.{clean_of}
 use Rattle.history.specs.declared.call.Task.{Task}
 use Rattle.history.specs.declared.call.Task.TheVariants as task
 use Rattle.history.specs.declared.call.Answer.{Answer}
@@ -25,12 +30,12 @@ use Rattle.history.specs.declared.call.Answer.TheVariants as answer
 use Rattle.history.specs.declared.entry.Entry.{Entry}
 use Rattle.history.specs.declared.entry.Entry.TheVariants as entry
 use Rattle.history.specs.Calls.{call_entries}
-use Rattle.history.specs.Events.{CallEvent, Step, steps_in, plain, plain_step, plain_event}
+use Rattle.history.specs.Events.{CallEvent, Step, plain, plain_step, plain_event}
 use Rattle.delegate_ops.specs.declared.stage.Change.{Change}
 use Rattle.delegate_ops.specs.declared.stage.Change.TheVariants as change
 use Rattle.delegate_ops.specs.declared.stage.Kept.{Kept}
 use Rattle.delegate_ops.specs.Deciding.{address_of, idle_answer, looked_answer, worn_answer}
-use Rattle.delegate_ops.specs.Changing.{from_of, to_of, changed_word, raised, split_stores, word_split}
+use Rattle.delegate_ops.specs.Changing.{from_of, to_of, own_space, changed_word, raised, split_stores, word_split}
 
 -- ---- the parts of a transition
 
@@ -76,32 +81,77 @@ pub record Reads (g : GeometryData) (t : Task) (place word : ℕ) (k : Generatio
   pub needed : looked_answer g t word ≡ None
   pub parts : events ≡ looking ++ reads g (address_of t) k made
 
--- fourth, where none is worn, a contiguous block is split; fifth, the granule is changed, and after
--- each change the generations are raised: the third raise completes the change
+-- fourth, where none is worn, a contiguous block is split; fifth, the granule is changed, after each
+-- change the generations are raised and a barrier waits for the accesses from before, and the lines
+-- of the granule are cleaned
 abbrev pub change_entry : GeometryData → ℕ → ℕ → Task → Change → Entry
 change_entry g c n t ch = entry.Changed c n (granule_of_task g t) (from_of t ch) (to_of t ch)
 
 abbrev pub completion : GeometryData → ℕ → ℕ → Task → Entry
 completion g c n t = entry.Settled c n (granule_of_task g t)
 
-abbrev pub last_raise : GeometryData → ℕ → ℕ → Task → Generations → Step
-last_raise g c n t k = record {
+-- What comes after the loads is a list of parts: a step, or a whole barrier.
+pub data Part : Type 0 where
+  Makes : Step → Part
+  Passes : Part
+
+-- a barrier passes a processor: its duty word is loaded until it was 0
+abbrev pub IsBusy : GeometryData → ℕ → CallEvent → Type 0
+IsBusy g cpu e = (e.act ≡ barrier_load g cpu) × (e.old ≢ 0) × (e.made ≡ [])
+
+pub record IsPassed (g : GeometryData) (cpu : ℕ) (events : List CallEvent) : Type 0 where
+  pub waits : List CallEvent
+  pub busy : All (IsBusy g cpu) waits
+  pub parts : events ≡ waits ++ plain (barrier_load g cpu) 0 ∷ []
+
+-- it passes the first n processors, one after another
+abbrev pub ArePassed : GeometryData → ℕ → List CallEvent → Type 0
+ArePassed g zero events = events ≡ []
+ArePassed g (suc n) events =
+    (before : List CallEvent) × (own : List CallEvent) × (events ≡ before ++ own)
+    × ArePassed g n before × IsPassed g n own
+
+-- the events are those of these parts: a step whatever it answers, a barrier over all processors
+abbrev pub AreParts : GeometryData → List Part → List CallEvent → Type 0
+AreParts g [] events = events ≡ []
+AreParts g (Makes step ∷ parts) events =
+    (old : ℕ) × (rest : List CallEvent)
+    × (events ≡ record { act = step.act; old = old; made = step.made } ∷ rest)
+    × AreParts g parts rest
+AreParts g (Passes ∷ parts) events =
+    (barrier : List CallEvent) × (rest : List CallEvent) × (events ≡ barrier ++ rest)
+    × ArePassed g g.cpus barrier × AreParts g parts rest
+
+abbrev pub plain_part : Act → Part
+plain_part act = Makes (plain_step act)
+
+-- the line of the granule and a space is cleaned
+abbrev pub cleaned : Option Act → List Part
+cleaned None = []
+cleaned (Some clean) = plain_part clean ∷ []
+
+abbrev pub cleans : GeometryData → Task → Space → List Part
+cleans g t s = cleaned (clean_of g (address_of t) s)
+
+-- the raises, of which the third completes the change, and the barrier after them
+abbrev pub last_raise : GeometryData → ℕ → ℕ → Task → Generations → Part
+last_raise g c n t k = Makes (record {
   act = gen_raise_of g size.FiveTwelve (address_of t) k.five_twelve;
   made = completion g c n t ∷ [];
-}
+})
 
-abbrev pub raises : GeometryData → ℕ → ℕ → Task → Generations → List Step
+abbrev pub raises : GeometryData → ℕ → ℕ → Task → Generations → List Part
 raises g c n t k =
-    plain_step (gen_raise_of g size.Two (address_of t) k.two)
-    ∷ plain_step (gen_raise_of g size.ThirtyTwo (address_of t) k.thirty_two)
-    ∷ last_raise g c n t k ∷ []
+    plain_part (gen_raise_of g size.Two (address_of t) k.two)
+    ∷ plain_part (gen_raise_of g size.ThirtyTwo (address_of t) k.thirty_two)
+    ∷ last_raise g c n t k ∷ Passes ∷ []
 
-abbrev pub change_and_raises : GeometryData → ℕ → ℕ → Task → ℕ → Change → Kept → List Step
+abbrev pub change_and_raises : GeometryData → ℕ → ℕ → Task → ℕ → Change → Kept → List Part
 change_and_raises g c n t place ch k =
-    record {
+    Makes (record {
       act = act.Store place (changed_word g t ch k.word);
       made = change_entry g c n t ch ∷ [];
-    }
+    })
     ∷ raises g c n t k.generations
 
 -- what is kept after a change and its raises
@@ -111,24 +161,30 @@ kept_after g t ch k = record {
   generations = raised k.generations;
 }
 
--- a delegate makes its last change alone, an undelegate goes through no access first
-abbrev pub transition_steps : GeometryData → ℕ → ℕ → Task → ℕ → Kept → List Step
-transition_steps g c n (task.Delegate pa source) place k =
-    change_and_raises g c n (task.Delegate pa source) place change.Last k
-transition_steps g c n (task.Undelegate pa source) place k =
+-- A delegate cleans the line of its target's space, makes its last change alone, and cleans the
+-- Non-secure one. An undelegate goes through no access first, cleans the lines of both spaces, and
+-- then makes its last change.
+abbrev pub transition_parts : GeometryData → ℕ → ℕ → Task → ℕ → Kept → List Part
+transition_parts g c n (task.Delegate pa source) place k =
+    cleans g (task.Delegate pa source) (own_space source)
+    ++ (change_and_raises g c n (task.Delegate pa source) place change.Last k
+    ++ cleans g (task.Delegate pa source) space.NonSecure)
+transition_parts g c n (task.Undelegate pa source) place k =
     change_and_raises g c n (task.Undelegate pa source) place change.First k
+    ++ (cleans g (task.Undelegate pa source) (own_space source)
+    ++ (cleans g (task.Undelegate pa source) space.NonSecure
     ++ change_and_raises g c n (task.Undelegate pa source) place change.Last
-    (kept_after g (task.Undelegate pa source) change.First k)
-transition_steps g c n t place k = []
+    (kept_after g (task.Undelegate pa source) change.First k)))
+transition_parts g c n t place k = []
 
--- what is kept after the splitting, and all steps from it to the last raise
+-- what is kept after the splitting, and all parts from it up to merging
 abbrev pub kept_split : Kept → Kept
 kept_split k = record { word = word_split k.word (l1_entry k.word); generations = k.generations }
 
-abbrev pub all_steps : GeometryData → ℕ → ℕ → Task → ℕ → Kept → List Step
-all_steps g c n t place k =
-    map plain_step (split_stores g (address_of t) place (l1_entry k.word))
-    ++ transition_steps g c n t place (kept_split k)
+abbrev pub all_parts : GeometryData → ℕ → ℕ → Task → ℕ → Kept → List Part
+all_parts g c n t place k =
+    map plain_part (split_stores g (address_of t) place (l1_entry k.word))
+    ++ transition_parts g c n t place (kept_split k)
 
 -- the L1 word after the last change
 abbrev pub last_word : GeometryData → Task → ℕ → ℕ
@@ -165,14 +221,14 @@ pub record IsWornOut (g : GeometryData) (c n : ℕ) (t : Task) (given : Answer)
   pub read : Reads g t place word generations (entries_of g c n t given) events
   pub worn : worn_answer generations ≡ Some given
 
--- it goes on to change its granule, and has made these steps after its loads
-pub record Changes (g : GeometryData) (t : Task) (place : ℕ) (k : Kept) (made : List Step)
+-- it goes on to change its granule, and has made these parts after its loads
+pub record Changes (g : GeometryData) (t : Task) (place : ℕ) (k : Kept) (made : List Part)
     (events : List CallEvent) : Type 0 where
   pub reading : List CallEvent
   pub changing : List CallEvent
   pub read : Reads g t place k.word k.generations [] reading
   pub fresh : worn_answer k.generations ≡ None
-  pub steps : steps_in changing ≡ made
+  pub steps : AreParts g made changing
   pub parts : events ≡ reading ++ changing
 
 -- sixth, what is around its word is merged, by the loads and stores of a whole merging
@@ -191,7 +247,7 @@ pub record IsDone (g : GeometryData) (c n : ℕ) (t : Task) (given : Answer) (ev
   pub kept : Kept
   pub changing : List CallEvent
   pub merging : List CallEvent
-  pub changes : Changes g t place kept (all_steps g c n t place kept) changing
+  pub changes : Changes g t place kept (all_parts g c n t place kept) changing
   pub merges : Merges g t (last_word g t (kept_split kept).word) merging
   pub parts : events ≡ changing ++ merging
   pub is : given ≡ answer.Done (last_generations t kept.generations)

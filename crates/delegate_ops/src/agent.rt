@@ -131,7 +131,7 @@ impl Agent {
         ensures there { is_some result ≡ not (has_ended self.now) }
     {
         match &self.transition {
-            Some(transition) => transition.next(),
+            Some(transition) => transition.next(&self.geometry),
             None => None,
         }
     }
@@ -207,7 +207,8 @@ impl Agent {
         transition.take_run(most)
     }
 
-    /// Whether the last act was a lock that wasn't free.
+    /// Whether the last act was a lock that wasn't free, or a load of a duty word that wasn't 0: one
+    /// that a barrier makes again.
     pub fn waits(&self) -> bool
         ensures { result ≡ self.now.waited }
     {

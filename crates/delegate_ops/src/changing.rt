@@ -1,10 +1,11 @@
 ghost use Rattle.std.specs.Prelude.{◌≡◌, ◌<◌};
 ghost use Rattle.gpi_values.specs.Values.{value_of};
 ghost use Rattle.gpt_descriptors.specs.Fields.{with_field};
-ghost use Rattle.delegate_ops.specs.Changing.{first_change, to_of};
+ghost use Rattle.delegate_ops.specs.Changing.{first_change, to_of, own_space, target_space};
+ghost use Rattle.delegate_ops.specs.Changing.{former_space, space_of_line};
 
-use crate::stage::Change;
-use gpi_values::{Gpi, nibble, own};
+use crate::stage::{Change, Line};
+use gpi_values::{Gpi, Source, Space, nibble, own};
 use gpt_descriptors::with_field;
 use history::Task;
 
@@ -35,4 +36,44 @@ pub fn changed_word(task: Task, change: Change, field: u64, word: u64) -> u64
     ensures { result ≡ with_field word field (value_of (to_of task change)) }
 {
     with_field(word, field, nibble(to_of(task, change)))
+}
+
+/// The space of a source.
+fn own_space(source: Source) -> Space
+    ensures { result ≡ own_space source }
+{
+    match source {
+        Source::Realm => Space::Realm,
+        Source::Secure => Space::Secure,
+    }
+}
+
+/// The space whose line a delegate cleans before its change.
+pub fn target_space(task: Task) -> Space
+    ensures { result ≡ target_space task }
+{
+    match task {
+        Task::Delegate(_, source) => own_space(source),
+        Task::Undelegate(..) | Task::Unknown | Task::Look(..) => Space::NonSecure,
+    }
+}
+
+/// The space that the former GPI of a change permits.
+fn former_space(task: Task, change: Change) -> Space
+    ensures { result ≡ former_space task change }
+{
+    match (task, change) {
+        (Task::Undelegate(_, source), Change::First) => own_space(source),
+        _ => Space::NonSecure,
+    }
+}
+
+/// The space of a line that is cleaned after a change.
+pub fn space_of_line(task: Task, change: Change, line: Line) -> Space
+    ensures { result ≡ space_of_line task change line }
+{
+    match line {
+        Line::Former => former_space(task, change),
+        Line::NonSecure => Space::NonSecure,
+    }
 }

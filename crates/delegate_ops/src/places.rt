@@ -1,12 +1,15 @@
 ghost use Rattle.std.specs.Prelude.{◌≡◌, ◌<◌, None};
 ghost use Rattle.gpt_descriptors.specs.Places.{IsGeometry};
 ghost use Rattle.delegate_ops.specs.Deciding.{idle_answer};
-ghost use Rattle.delegate_ops.specs.InnerTransition.{places_of, generation_place};
+ghost use Rattle.delegate_ops.specs.InnerTransition.{places_of, generation_place, clean_by};
 
 use crate::deciding::address_of;
+use alias_clean::line_mask;
 use bit_locks::{Bit, lock_of};
+use gpi_values::Space;
 use gpt_descriptors::{Geometry, Size};
 use history::Task;
+use shared_words::Act;
 
 /// Where the acts of one transition are made: places among the shared words.
 #[derive(Clone, Copy, Debug, PartialEq, Eq)]
@@ -17,6 +20,8 @@ pub struct Places {
     pub word: usize,
     /// The granule's field in that word, 0 to 15.
     pub field: u64,
+    /// Its line word.
+    pub line: usize,
     /// The generations of the 2, 32 and 512 MB around it.
     pub two: usize,
     pub thirty_two: usize,
@@ -38,6 +43,7 @@ impl Places {
             lock: lock_of(geometry, pa),
             word: geometry.l1_place(pa).unwrap_or(0),
             field: pa / setup.granule_bytes() % 16,
+            line: geometry.line_place(pa).unwrap_or(0),
             two: geometry.gen_place(Size::Two, pa),
             thirty_two: geometry.gen_place(Size::ThirtyTwo, pa),
             five_twelve: geometry.gen_place(Size::FiveTwelve, pa),
@@ -53,5 +59,13 @@ impl Places {
             Size::ThirtyTwo => self.thirty_two,
             Size::FiveTwelve => self.five_twelve,
         }
+    }
+
+    /// The act that cleans the line of its granule and a space.
+    pub fn clean(&self, space: Space) -> Act
+        requires { self.now.field < 16 }
+        ensures { result ≡ clean_by self.now space }
+    {
+        Act::And(self.line, !line_mask(self.field, space))
     }
 }

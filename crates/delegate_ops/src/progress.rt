@@ -12,29 +12,33 @@ ghost use Rattle.delegate_ops.specs.InnerStages as stage;
 ghost use Rattle.delegate_ops.specs.declared.stage.Phase.TheVariants as the_phase;
 ghost use Rattle.delegate_ops.specs.InnerAgents.{IsReadable, number_of, looked_stage, loaded_stage};
 ghost use Rattle.delegate_ops.specs.InnerAgents.{read_all, read_stage, split_stage, merged_stage};
+ghost use Rattle.delegate_ops.specs.InnerAgents.{first_stage, last_stage, passed_stage};
+ghost use Rattle.delegate_ops.specs.InnerAgents.{passing_stage, cleaned_stage};
 ghost use Rattle.delegate_ops.specs.InnerAgents.{raised_stage, stage_after};
+ghost use Rattle.invalidate.specs.Barrier.{one_passed};
 ghost use Rattle.delegate_ops.specs.InnerRuns.{IsStoring, MakesRun};
 ghost use Rattle.delegate_ops.specs.declared.places.Places.{Places as ThePlaces};
 ghost use Rattle.delegate_ops.specs.InnerTransition.{IsTransition, act_by, answer_by, after_by};
 ghost use Rattle.delegate_ops.specs.InnerTransition.{next_in, old_in, at_progress, turned_by};
-ghost use Rattle.delegate_ops.specs.InnerTransition.{GoesTo};
+ghost use Rattle.delegate_ops.specs.InnerTransition.{GoesTo, IsWriting};
 
 use crate::blocks::{merging_of, splitting_of};
-use crate::changing::{changed_word, first_change};
+use crate::changing::{changed_word, first_change, space_of_line, target_space};
 use crate::deciding::{is_needed, worn_size};
 use crate::places::Places;
-use crate::stage::{Change, Ending, Kept, Phase};
+use crate::stage::{Change, Ending, Kept, Line, Phase};
 use bit_locks::{Bit, drop_act, take, was_free};
 use fuse::{Fuse, has_acts};
 use gpt_descriptors::{Geometry, Gpi, L1Entry, Size, decode_l1, granules_of, l1_field};
 use history::{Answer, Task};
+use invalidate::Barrier;
 use shared_words::{Act, StoreRun, Words};
 use shatter::Splitting;
 
 /// What a turn of a transition was.
 #[derive(Clone, Copy, Debug, PartialEq, Eq)]
 pub enum Turned {
-    /// It had waited for its lock, and waits again.
+    /// It had waited for its lock or for a processor, and waits again.
     Still,
     /// It goes on, or begins to wait.
     Goes,
@@ -56,6 +60,8 @@ pub struct Progress {
     kept: Kept,
     /// The splitting that it makes, or has made last.
     splitting: Splitting,
+    /// The barrier that it is in, or has been in last.
+    barrier: Barrier,
     /// The merging that it makes, or has made last.
     merging: Fuse,
 }
@@ -70,6 +76,7 @@ impl Progress {
             phase: Phase::Locking,
             kept: Kept::new(0),
             splitting: splitting_of(geometry, task, Size::Two, Gpi::NoAccess),
+            barrier: Barrier::new(geometry.cpus()),
             merging: merging_of(geometry, task, 0),
         }
     }
@@ -81,11 +88,11 @@ impl Progress {
         self.phase = Phase::Locking;
     }
 
-    /// Whether the last act was a lock that wasn't free.
+    /// Whether the last act was a lock that wasn't free, or a load of a duty word that wasn't 0.
     pub fn waits(&self) -> bool
         ensures { result ≡ waits_in self.now.phase }
     {
-        matches!(self.phase, Phase::Waiting)
+        matches!(self.phase, Phase::Waiting | Phase::Blocked(_))
     }
 
     /// The answer with which the next act, the release of the lock, ends the transition.
@@ -99,15 +106,16 @@ impl Progress {
     }
 
     /// The next act.
-    pub fn next(&self, places: &Places, task: Task) -> Option<Act>
-        requires { (g : GeometryData) × IsTransition g (at_progress task places.now self.now) }
-        ensures { result ≡ act_by places.now (stage_of self.now) task }
+    pub fn next(&self, geometry: &Geometry, places: &Places, task: Task) -> Option<Act>
+        requires { IsTransition geometry.now (at_progress task places.now self.now) }
+        ensures { result ≡ act_by geometry.now places.now (stage_of self.now) task }
     {
         match self.phase {
             Phase::Locking | Phase::Waiting => Some(take(places.lock)),
             Phase::Looking => Some(Act::Load(places.word)),
             Phase::Reading(size) => Some(Act::Load(places.generation(size))),
             Phase::Splitting(_) => self.splitting.next(),
+            Phase::Preparing => Some(places.clean(target_space(task))),
             Phase::Changing(change) => {
                 let word = changed_word(task, change, places.field, self.kept.word);
                 Some(Act::Store(places.word, word))
@@ -116,6 +124,8 @@ impl Progress {
                 let raised = self.kept.generations.get(size) + 1;
                 Some(Act::Store(places.generation(size), raised))
             }
+            Phase::Passing(_) | Phase::Blocked(_) => self.barrier.next(geometry),
+            Phase::Cleaning(change, line) => Some(places.clean(space_of_line(task, change, line))),
             Phase::Merging => self.merging.next(),
             Phase::Releasing(_) => Some(drop_act(places.lock)),
         }
@@ -148,6 +158,16 @@ impl Progress {
         }
     }
 
+    /// The first change is next, and with a delegate a clean before it.
+    fn begin_change(&mut self, task: Task)
+        ensures { GoesTo self.new (first_stage task self.old.kept) }
+    {
+        self.phase = match task {
+            Task::Delegate(..) => Phase::Preparing,
+            _ => Phase::Changing(first_change(task)),
+        };
+    }
+
     /// All generations were loaded, and none is exhausted.
     fn loaded(&mut self, geometry: &Geometry, task: Task)
         requires descriptor { IsTrue (is_some (l1_entry self.old.kept.word)) }
@@ -155,13 +175,13 @@ impl Progress {
         ensures { GoesTo self.new
             (loaded_stage geometry.now task (l1_entry self.old.kept.word) self.old.kept) }
     {
-        self.phase = match decode_l1(self.kept.word) {
+        match decode_l1(self.kept.word) {
             Some(L1Entry::Contig(size, gpi)) => {
                 self.splitting = splitting_of(geometry, task, size, gpi);
-                Phase::Splitting(size)
+                self.phase = Phase::Splitting(size);
             }
-            _ => Phase::Changing(first_change(task)),
-        };
+            _ => self.begin_change(task),
+        }
     }
 
     /// All generations were loaded.
@@ -200,7 +220,7 @@ impl Progress {
     {
         if self.splitting.is_over() {
             self.kept.word = granules_of(self.splitting.gpi());
-            self.phase = Phase::Changing(first_change(task));
+            self.begin_change(task);
         }
     }
 
@@ -238,19 +258,70 @@ impl Progress {
         };
     }
 
-    /// The last change is complete: merging begins, where it has acts.
+    /// The last change and what follows it are made: merging begins, where it has acts.
     #[tactic(auto, using(fuse::proofs::StartLemmas::without_acts))]
     fn merge(&mut self, geometry: &Geometry, task: Task)
         requires { idle_answer geometry.now task ≡ None }
-        ensures { GoesTo self.new (merged_stage (fuse_of geometry.now
-            (number_of (l1_index_of geometry.now (address_of task))) self.old.kept.word)
-            self.old.kept.generations) }
+        ensures { GoesTo self.new (last_stage geometry.now task self.old.kept) }
     {
         if has_acts(geometry.setup().max(), self.kept.word) {
             self.merging = merging_of(geometry, task, self.kept.word);
             self.settle();
         } else {
             self.phase = Phase::Releasing(Ending::Done);
+        }
+    }
+
+    /// Every processor is passed after a change.
+    fn passed(&mut self, geometry: &Geometry, task: Task, change: Change)
+        requires { idle_answer geometry.now task ≡ None }
+        ensures { GoesTo self.new (passed_stage geometry.now task change self.old.kept) }
+    {
+        match (task, change) {
+            (Task::Undelegate(..), Change::Last) => self.merge(geometry, task),
+            _ => self.phase = Phase::Cleaning(change, Line::Former),
+        }
+    }
+
+    /// The barrier after a change goes on, or what follows it.
+    fn pass(&mut self, geometry: &Geometry, task: Task, change: Change)
+        requires { idle_answer geometry.now task ≡ None }
+        ensures { GoesTo self.new
+            (passing_stage geometry.now task change self.old.barrier self.old.kept) }
+    {
+        if self.barrier.is_over() {
+            self.passed(geometry, task, change);
+        } else {
+            self.phase = Phase::Passing(change);
+        }
+    }
+
+    /// The next processor's duty word was loaded in the barrier after a change.
+    fn found(&mut self, geometry: &Geometry, task: Task, change: Change, duty: u64)
+        requires acts { idle_answer geometry.now task ≡ None }
+        requires next { self.old.barrier.passed < self.old.barrier.cpus }
+        ensures stage { stage_of self.new ≡ (if not (duty == 0)
+            then stage.Passing change self.old.barrier self.old.kept
+            else passing_stage geometry.now task change (one_passed self.old.barrier)
+            self.old.kept) }
+        ensures waits { waits_in self.new.phase ≡ not (duty == 0) }
+    {
+        if self.barrier.took(duty) {
+            self.pass(geometry, task, change);
+        } else {
+            self.phase = Phase::Blocked(change);
+        }
+    }
+
+    /// This line was cleaned after a change.
+    fn cleaned(&mut self, geometry: &Geometry, task: Task, change: Change, line: Line)
+        requires { idle_answer geometry.now task ≡ None }
+        ensures { GoesTo self.new (cleaned_stage geometry.now task change line self.old.kept) }
+    {
+        match (change, line) {
+            (Change::First, Line::Former) => self.phase = Phase::Cleaning(change, Line::NonSecure),
+            (Change::First, Line::NonSecure) => self.phase = Phase::Changing(Change::Last),
+            (Change::Last, _) => self.merge(geometry, task),
         }
     }
 
@@ -261,11 +332,13 @@ impl Progress {
             (raised_stage geometry.now task change size (kept_read size raised self.old.kept)) }
     {
         self.kept.note(size, raised);
-        match (size, change) {
-            (Size::Two, _) => self.phase = Phase::Raising(change, Size::ThirtyTwo),
-            (Size::ThirtyTwo, _) => self.phase = Phase::Raising(change, Size::FiveTwelve),
-            (Size::FiveTwelve, Change::First) => self.phase = Phase::Changing(Change::Last),
-            (Size::FiveTwelve, Change::Last) => self.merge(geometry, task),
+        match size {
+            Size::Two => self.phase = Phase::Raising(change, Size::ThirtyTwo),
+            Size::ThirtyTwo => self.phase = Phase::Raising(change, Size::FiveTwelve),
+            Size::FiveTwelve => {
+                self.barrier = Barrier::new(geometry.cpus());
+                self.pass(geometry, task, change);
+            }
         }
     }
 
@@ -293,6 +366,7 @@ impl Progress {
             Phase::Looking => self.looked(task, places.field, old),
             Phase::Reading(size) => self.read(geometry, task, size, old),
             Phase::Splitting(size) => self.split(task, size),
+            Phase::Preparing => self.phase = Phase::Changing(Change::Last),
             Phase::Changing(change) => {
                 let word = changed_word(task, change, places.field, self.kept.word);
                 self.changed(change, word);
@@ -301,6 +375,10 @@ impl Progress {
                 let value = self.kept.generations.get(size) + 1;
                 self.raised(geometry, task, change, size, value);
             }
+            Phase::Passing(change) | Phase::Blocked(change) => {
+                self.found(geometry, task, change, old);
+            }
+            Phase::Cleaning(change, line) => self.cleaned(geometry, task, change, line),
             Phase::Merging => self.merged(old),
             Phase::Releasing(_) => {}
         }
@@ -336,6 +414,39 @@ impl Progress {
         }
     }
 
+    /// The next act, made on the words, where it writes a word of the granule or a generation.
+    fn write<W: Words>(&mut self, geometry: &Geometry, places: &Places, task: Task, words: &mut W)
+        requires transition { IsTransition geometry.now (at_progress task places.now self.old) }
+        requires place { MayBeMade (next_in geometry.now task places.now self.old)
+            (W.words words.old) }
+        requires writes { IsWriting (stage_of self.old) }
+        ensures words { W.words words.new
+            ≡ words_after (next_in geometry.now task places.now self.old) (W.words words.old) }
+        ensures after { GoesTo self.new (stage_after geometry.now task (stage_of self.old) 0) }
+    {
+        match self.phase {
+            Phase::Preparing => {
+                words.apply(places.clean(target_space(task)));
+                self.phase = Phase::Changing(Change::Last);
+            }
+            Phase::Changing(change) => {
+                let word = changed_word(task, change, places.field, self.kept.word);
+                words.apply(Act::Store(places.word, word));
+                self.changed(change, word);
+            }
+            Phase::Raising(change, size) => {
+                let value = self.kept.generations.get(size) + 1;
+                words.apply(Act::Store(places.generation(size), value));
+                self.raised(geometry, task, change, size, value);
+            }
+            Phase::Cleaning(change, line) => {
+                words.apply(places.clean(space_of_line(task, change, line)));
+                self.cleaned(geometry, task, change, line);
+            }
+            _ => {}
+        }
+    }
+
     /// The next act, made on the words, with what comes of it.
     pub fn turn<W: Words>(
         &mut self,
@@ -345,27 +456,24 @@ impl Progress {
         words: &mut W,
     ) -> Turned
         requires transition { IsTransition geometry.now (at_progress task places.now self.old) }
-        requires place { MayBeMade (next_in task places.now self.old) (W.words words.old) }
+        requires place { MayBeMade (next_in geometry.now task places.now self.old)
+            (W.words words.old) }
         requires readable { IsReadable (stage_of self.old)
-            (old_in task places.now self.old (W.words words.old)) }
+            (old_in geometry.now task places.now self.old (W.words words.old)) }
         ensures words { W.words words.new
-            ≡ words_after (next_in task places.now self.old) (W.words words.old) }
+            ≡ words_after (next_in geometry.now task places.now self.old) (W.words words.old) }
         ensures after { at_progress task places.now self.new
             ≡ after_by geometry.now (at_progress task places.now self.old)
-            (old_in task places.now self.old (W.words words.old)) }
+            (old_in geometry.now task places.now self.old (W.words words.old)) }
         ensures turned { result ≡ turned_by (at_progress task places.now self.old)
-            (old_in task places.now self.old (W.words words.old)) }
+            (old_in geometry.now task places.now self.old (W.words words.old)) }
     {
         match self.phase {
-            Phase::Locking => {
-                let old = words.apply(take(places.lock));
-                self.locked(is_held(places.lock, old));
-            }
-            Phase::Waiting => {
-                let old = words.apply(take(places.lock));
-                let again = is_held(places.lock, old);
-                self.locked(again);
-                if again {
+            Phase::Locking | Phase::Waiting => {
+                let waited = self.waits();
+                let held = is_held(places.lock, words.apply(take(places.lock)));
+                self.locked(held);
+                if waited && held {
                     return Turned::Still;
                 }
             }
@@ -383,15 +491,18 @@ impl Progress {
                     self.split(task, size);
                 }
             }
-            Phase::Changing(change) => {
-                let word = changed_word(task, change, places.field, self.kept.word);
-                words.apply(Act::Store(places.word, word));
-                self.changed(change, word);
+            Phase::Preparing | Phase::Changing(_) | Phase::Raising(..) | Phase::Cleaning(..) => {
+                self.write(geometry, places, task, words);
             }
-            Phase::Raising(change, size) => {
-                let value = self.kept.generations.get(size) + 1;
-                words.apply(Act::Store(places.generation(size), value));
-                self.raised(geometry, task, change, size, value);
+            Phase::Passing(change) | Phase::Blocked(change) => {
+                let waited = self.waits();
+                if let Some(load) = self.barrier.next(geometry) {
+                    let duty = words.apply(load);
+                    self.found(geometry, task, change, duty);
+                    if waited && duty != 0 {
+                        return Turned::Still;
+                    }
+                }
             }
             Phase::Merging => {
                 if let Some(act) = self.merging.next() {

@@ -12,6 +12,14 @@ pub enum Change {
     Last,
 }
 
+/// A line of its granule that a transition cleans after a change: that of the space which its former
+/// GPI permits, and, where an undelegate has gone to no access, after it the Non-secure one.
+#[derive(Clone, Copy, Debug, PartialEq, Eq)]
+pub enum Line {
+    Former,
+    NonSecure,
+}
+
 /// What a transition keeps while it holds its lock: the L1 word and the generations around the
 /// granule as it has last loaded or written them. A generation that isn't loaded yet is kept as 0.
 #[derive(Clone, Copy, Debug, PartialEq, Eq)]
@@ -87,10 +95,19 @@ pub enum Phase {
     Reading(Size),
     /// The granule is in a contiguous block of this size. The next act is a store of its splitting.
     Splitting(Size),
+    /// The granule may be delegated. The next act cleans the line of its target's space.
+    Preparing,
     /// The next act writes the L1 word with this change of the granule.
     Changing(Change),
     /// The granule is changed. The next act raises the generation of this size.
     Raising(Change, Size),
+    /// This change is complete. The next act loads a processor's duty word.
+    Passing(Change),
+    /// That duty word wasn't 0. The next act loads it again.
+    Blocked(Change),
+    /// Every processor has ended the access that it made before this change. The next act cleans
+    /// this line.
+    Cleaning(Change, Line),
     /// The granule has its last GPI. The next act is a load or a store of merging.
     Merging,
     /// The next act releases the lock, and the call is answered so.

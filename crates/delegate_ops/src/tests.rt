@@ -38,22 +38,36 @@ const INSIDE_GENERATIONS: [(usize, u64); 3] = [
     (2179, 500),
 ];
 
+/// The load of the one processor's duty word.
+const DUTY: Act = Act::Load(2186);
+
+/// The line word of that L1 word comes 0x4000 words after it. These clean the lines of the granule
+/// in the Secure, the Non-secure and the Realm space.
+const CLEAN_SECURE: Act = Act::And(27344, !0x1000);
+
+const CLEAN_NON_SECURE: Act = Act::And(27344, !0x2000);
+
+const CLEAN_REALM: Act = Act::And(27344, !0x8000);
+
 /// Each act of its delegate by realm, and what the act answers.
-const DELEGATE_INSIDE: [(Act, u64); 10] = [
+const DELEGATE_INSIDE: [(Act, u64); 13] = [
     (Act::Or(0, 2), 0),
     (Act::Load(10960), NON_SECURE),
     (Act::Load(276), 0x7fff_ffff_ffff_fffd),
     (Act::Load(2067), 0x7fff_ffff_ffff_fffd),
     (Act::Load(2179), 500),
+    (CLEAN_REALM, 0),
     (Act::Store(10960, 0x9999_9999_9999_b999), 0),
     (Act::Store(276, 0x7fff_ffff_ffff_fffe), 0),
     (Act::Store(2067, 0x7fff_ffff_ffff_fffe), 0),
     (Act::Store(2179, 501), 0),
+    (DUTY, 0),
+    (CLEAN_NON_SECURE, 0),
     (Act::And(0, !2), 2),
 ];
 
 /// Each act of its undelegate by secure.
-const UNDELEGATE_INSIDE: [(Act, u64); 14] = [
+const UNDELEGATE_INSIDE: [(Act, u64); 18] = [
     (Act::Or(0, 2), 0),
     (Act::Load(10960), SECURE),
     (Act::Load(276), 0x7fff_ffff_ffff_fffd),
@@ -63,16 +77,20 @@ const UNDELEGATE_INSIDE: [(Act, u64); 14] = [
     (Act::Store(276, 0x7fff_ffff_ffff_fffe), 0),
     (Act::Store(2067, 0x7fff_ffff_ffff_fffe), 0),
     (Act::Store(2179, 501), 0),
+    (DUTY, 0),
+    (CLEAN_SECURE, 0),
+    (CLEAN_NON_SECURE, 0),
     (Act::Store(10960, 0x8888_8888_8888_9888), 0),
     (Act::Store(276, 0x7fff_ffff_ffff_ffff), 0),
     (Act::Store(2067, 0x7fff_ffff_ffff_ffff), 0),
     (Act::Store(2179, 502), 0),
+    (DUTY, 0),
     (Act::And(0, !2), 2),
 ];
 
 /// Each act up to merging of its undelegate by realm, where its other fifteen granules are
 /// Non-secure and generations start at 0.
-const UNDELEGATE_REALM: [(Act, u64); 13] = [
+const UNDELEGATE_REALM: [(Act, u64); 17] = [
     (Act::Or(0, 2), 0),
     (Act::Load(10960), 0x9999_9999_9999_b999),
     (Act::Load(276), 0),
@@ -82,10 +100,14 @@ const UNDELEGATE_REALM: [(Act, u64); 13] = [
     (Act::Store(276, 1), 0),
     (Act::Store(2067, 1), 0),
     (Act::Store(2179, 1), 0),
+    (DUTY, 0),
+    (CLEAN_REALM, 0),
+    (CLEAN_NON_SECURE, 0),
     (Act::Store(10960, NON_SECURE), 0),
     (Act::Store(276, 2), 0),
     (Act::Store(2067, 2), 0),
     (Act::Store(2179, 2), 0),
+    (DUTY, 0),
 ];
 
 /// The generations that this undelegate gives.
@@ -132,20 +154,30 @@ const WORN: [([(usize, u64); 3], Size, u64); 3] = [
     ),
 ];
 
-/// 4 GB with a table of the first gigabyte alone, a lock for each 512 MB, and contiguous entries up
-/// to this size.
-fn one_table(max: MaxBlock) -> Result<Geometry, Fail> {
+/// 4 GB with a table of the first gigabyte alone, a lock for each 512 MB, contiguous entries up to
+/// this size, and this number of processors.
+fn with_processors(cpus: u32, max: MaxBlock) -> Result<Geometry, Fail> {
     let setup = Setup::new(4, max, 1, 0, 8, 1, 0x8000_0000).ok_or("refused")?;
     let l0 = [0x8000_0003, 0xf1, 0xf1, 0xf1];
-    if !l0_good(&setup, l0.as_slice()) {
+    if !l0_good(&setup, l0.as_slice()) || cpus > 32 {
         return Err("a bad table")?;
     }
-    Ok(Geometry::new(setup, 1, l0.as_slice()))
+    Ok(Geometry::new(setup, cpus, l0.as_slice()))
 }
 
-/// The words before the first act, each L1 word this one.
+/// With one processor.
+fn one_table(max: MaxBlock) -> Result<Geometry, Fail> {
+    with_processors(1, max)
+}
+
+/// The words before the first act, each L1 word this one, with one processor.
 fn started(alloc: Global, word: u64) -> Result<PlainWords, Fail> {
-    let geometry = one_table(MaxBlock::FiveTwelve)?;
+    started_with(alloc, 1, word)
+}
+
+/// The words before the first act, each L1 word this one, with this number of processors.
+fn started_with(alloc: Global, cpus: u32, word: u64) -> Result<PlainWords, Fail> {
+    let geometry = with_processors(cpus, MaxBlock::FiveTwelve)?;
     let count = (geometry.l1_tables() * geometry.setup().table_words()) as usize;
     let mut l1 = Vec::new(alloc);
     l1.resize(count, word)?;
@@ -343,10 +375,13 @@ fn a_delegate_splits_its_2_mb_first(rt: HostRuntime) -> Result<(), Fail> {
     }
     // The changed word hasn't sixteen equal GPIs: there is nothing to merge.
     for (act, old) in [
+        (CLEAN_REALM, 0),
         (Act::Store(10960, 0x9999_9999_9999_b999), 0),
         (Act::Store(276, 0x7fff_ffff_ffff_fffe), 0),
         (Act::Store(2067, 0x7fff_ffff_ffff_fffe), 0),
         (Act::Store(2179, 501), 0),
+        (DUTY, 0),
+        (CLEAN_NON_SECURE, 0),
         (Act::And(0, !2), 2),
     ] {
         assert_eq!(rt; step(&mut agent, &mut words), Some((act, old)));
@@ -452,10 +487,13 @@ fn a_granule_that_comes_back_lets_32_mb_merge_again(rt: HostRuntime) -> Result<(
         assert_eq!(rt; step(&mut agent, &mut words), Some((store, 0)));
     }
     for (act, old) in [
+        (CLEAN_SECURE, 0),
         (Act::Store(10960, 0x9999_9999_9999_8999), 0),
         (Act::Store(276, 1), 0),
         (Act::Store(2067, 1), 0),
         (Act::Store(2179, 1), 0),
+        (DUTY, 0),
+        (CLEAN_NON_SECURE, 0),
         (Act::And(0, !2), 2),
     ] {
         assert_eq!(rt; agent.left(), 2);
@@ -473,10 +511,14 @@ fn a_granule_that_comes_back_lets_32_mb_merge_again(rt: HostRuntime) -> Result<(
         (Act::Store(276, 2), 0),
         (Act::Store(2067, 2), 0),
         (Act::Store(2179, 2), 0),
+        (DUTY, 0),
+        (CLEAN_SECURE, 0),
+        (CLEAN_NON_SECURE, 0),
         (Act::Store(10960, NON_SECURE), 0),
         (Act::Store(276, 3), 0),
         (Act::Store(2067, 3), 0),
         (Act::Store(2179, 3), 0),
+        (DUTY, 0),
     ] {
         assert_eq!(rt; agent.left(), 1);
         assert_eq!(rt; step(&mut agent, &mut words), Some((act, old)));
@@ -533,5 +575,151 @@ fn an_unknown_call_is_answered_without_acts(rt: HostRuntime) -> Result<(), Fail>
         agent.answers(),
         [Answer::Unknown, Answer::Perm(Gpi::Secure), Answer::Unknown].as_slice()
     );
+    Ok(())
+}
+
+/// With two processors each L1 word and each line word stands one place later. These clean the
+/// lines of the granule in the Non-secure and the Realm space.
+const SECOND_CLEAN_NON_SECURE: Act = Act::And(27345, !0x2000);
+
+const SECOND_CLEAN_REALM: Act = Act::And(27345, !0x8000);
+
+/// The acts of its delegate by realm up to its barrier, beside two processors. All lines of its word
+/// are resident before it.
+const DELEGATE_TO_BARRIER: [(Act, u64); 10] = [
+    (Act::Or(0, 2), 0),
+    (Act::Load(10961), NON_SECURE),
+    (Act::Load(276), 0),
+    (Act::Load(2067), 0),
+    (Act::Load(2179), 0),
+    (SECOND_CLEAN_REALM, 0xffff_ffff_ffff_ffff),
+    (Act::Store(10961, 0x9999_9999_9999_b999), 0),
+    (Act::Store(276, 1), 0),
+    (Act::Store(2067, 1), 0),
+    (Act::Store(2179, 1), 0),
+];
+
+/// The acts of its undelegate by realm up to its first barrier, and from it up to its second one.
+const UNDELEGATE_TO_BARRIER: [(Act, u64); 9] = [
+    (Act::Or(0, 2), 0),
+    (Act::Load(10961), 0x9999_9999_9999_b999),
+    (Act::Load(276), 0),
+    (Act::Load(2067), 0),
+    (Act::Load(2179), 0),
+    (Act::Store(10961, 0x9999_9999_9999_0999), 0),
+    (Act::Store(276, 1), 0),
+    (Act::Store(2067, 1), 0),
+    (Act::Store(2179, 1), 0),
+];
+
+const UNDELEGATE_TO_NEXT_BARRIER: [(Act, u64); 6] = [
+    (SECOND_CLEAN_REALM, 0xffff_ffff_ffff_ffff),
+    (SECOND_CLEAN_NON_SECURE, 0xffff_ffff_ffff_7fff),
+    (Act::Store(10961, NON_SECURE), 0),
+    (Act::Store(276, 2), 0),
+    (Act::Store(2067, 2), 0),
+    (Act::Store(2179, 2), 0),
+];
+
+/// The duty words that are set before each load of a barrier over two processors, its place, what
+/// it answers, and whether the agent then waits.
+const TWO_PROCESSORS: [([(usize, u64); 2], usize, u64, bool); 5] = [
+    ([(2186, 1), (2187, 1)], 2186, 1, true),
+    ([(2186, 1), (2187, 0)], 2186, 1, true),
+    ([(2186, 0), (2187, 1)], 2186, 0, false),
+    ([(2186, 1), (2187, 1)], 2187, 1, true),
+    ([(2186, 1), (2187, 0)], 2187, 0, false),
+];
+
+#[test]
+fn a_delegate_waits_for_each_access_under_way(rt: HostRuntime) -> Result<(), Fail> {
+    let tasks = vec![in rt.alloc(); Task::Delegate(INSIDE, Source::Realm)]?;
+    let geometry = with_processors(2, MaxBlock::Zero)?;
+    let mut words = started_with(rt.alloc(), 2, NON_SECURE)?;
+    set(&mut words, [(27345, 0xffff_ffff_ffff_ffff)].as_slice());
+    let mut agent = Agent::new(rt.alloc(), geometry, tasks)?;
+    for (act, old) in DELEGATE_TO_BARRIER {
+        assert_eq!(rt; step(&mut agent, &mut words), Some((act, old)));
+    }
+    for (duties, place, old, waits) in TWO_PROCESSORS {
+        set(&mut words, duties.as_slice());
+        assert_eq!(rt; step(&mut agent, &mut words), Some((Act::Load(place), old)));
+        assert_eq!(rt; agent.waits(), waits);
+    }
+    for (act, old) in [
+        (SECOND_CLEAN_NON_SECURE, 0xffff_ffff_ffff_7fff),
+        (Act::And(0, !2), 2),
+    ] {
+        assert_eq!(rt; step(&mut agent, &mut words), Some((act, old)));
+        assert!(rt; !agent.waits());
+    }
+    assert_eq!(rt; agent.next(), None);
+    assert_eq!(rt;
+        words.words().get(27345).copied(),
+        Some(0xffff_ffff_ffff_5fff)
+    );
+    Ok(())
+}
+
+#[test]
+fn an_undelegate_waits_after_both_changes(rt: HostRuntime) -> Result<(), Fail> {
+    let tasks = vec![in rt.alloc(); Task::Undelegate(INSIDE, Source::Realm)]?;
+    let geometry = with_processors(2, MaxBlock::Zero)?;
+    let mut words = started_with(rt.alloc(), 2, NON_SECURE)?;
+    set(
+        &mut words,
+        [
+            (10961, 0x9999_9999_9999_b999),
+            (27345, 0xffff_ffff_ffff_ffff),
+        ]
+        .as_slice(),
+    );
+    let mut agent = Agent::new(rt.alloc(), geometry, tasks)?;
+    for acts in [
+        UNDELEGATE_TO_BARRIER.as_slice(),
+        UNDELEGATE_TO_NEXT_BARRIER.as_slice(),
+    ] {
+        for (act, old) in acts {
+            assert_eq!(rt; step(&mut agent, &mut words), Some((*act, *old)));
+        }
+        for (duties, place, old, waits) in TWO_PROCESSORS {
+            set(&mut words, duties.as_slice());
+            assert_eq!(rt; step(&mut agent, &mut words), Some((Act::Load(place), old)));
+            assert_eq!(rt; agent.waits(), waits);
+        }
+    }
+    // Nothing is cleaned after the second barrier.
+    assert_eq!(rt; step(&mut agent, &mut words), Some((Act::And(0, !2), 2)));
+    assert_eq!(rt; agent.next(), None);
+    assert_eq!(rt;
+        words.words().get(27345).copied(),
+        Some(0xffff_ffff_ffff_5fff)
+    );
+    Ok(())
+}
+
+#[test]
+fn without_processors_a_barrier_has_no_acts(rt: HostRuntime) -> Result<(), Fail> {
+    let tasks = vec![in rt.alloc(); DELEGATE]?;
+    let geometry = with_processors(0, MaxBlock::Zero)?;
+    let mut words = started_with(rt.alloc(), 0, NON_SECURE)?;
+    let mut agent = Agent::new(rt.alloc(), geometry, tasks)?;
+    for (act, old) in [
+        (LOCK, 0),
+        (Act::Load(2186), NON_SECURE),
+        (Act::Load(2), 0),
+        (Act::Load(2050), 0),
+        (Act::Load(2178), 0),
+        (Act::And(18570, !8), 0),
+        (Act::Store(2186, 0x9999_9999_9999_999b), 0),
+        (Act::Store(2, 1), 0),
+        (Act::Store(2050, 1), 0),
+        (Act::Store(2178, 1), 0),
+        (Act::And(18570, !2), 0),
+        (UNLOCK, 1),
+    ] {
+        assert_eq!(rt; step(&mut agent, &mut words), Some((act, old)));
+    }
+    assert_eq!(rt; agent.next(), None);
     Ok(())
 }

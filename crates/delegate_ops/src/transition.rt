@@ -56,12 +56,12 @@ impl Transition {
         self.progress.restart();
     }
 
-    /// The next act.
-    pub fn next(&self) -> Option<Act>
-        requires { (g : GeometryData) × IsTransition g self.now }
-        ensures { result ≡ next_by self.now }
+    /// The next act. The geometry is that for which it was made.
+    pub fn next(&self, geometry: &Geometry) -> Option<Act>
+        requires { IsTransition geometry.now self.now }
+        ensures { result ≡ next_by geometry.now self.now }
     {
-        self.progress.next(&self.places, self.task)
+        self.progress.next(geometry, &self.places, self.task)
     }
 
     /// The answer with which the next act ends the transition: it is there exactly where that act
@@ -95,14 +95,15 @@ impl Transition {
     #[tactic(auto, using(crate::proofs::TransitionLemmas::stays_transition))]
     pub fn turn<W: Words>(&mut self, geometry: &Geometry, words: &mut W) -> Turned
         requires transition { IsTransition geometry.now self.old }
-        requires place { MayBeMade (next_by self.old) (W.words words.old) }
+        requires place { MayBeMade (next_by geometry.now self.old) (W.words words.old) }
         requires readable { IsReadable self.old.stage
-            (old_by (next_by self.old) (W.words words.old)) }
-        ensures words { W.words words.new ≡ words_after (next_by self.old) (W.words words.old) }
-        ensures after { self.new
-            ≡ after_by geometry.now self.old (old_by (next_by self.old) (W.words words.old)) }
+            (old_by (next_by geometry.now self.old) (W.words words.old)) }
+        ensures words { W.words words.new
+            ≡ words_after (next_by geometry.now self.old) (W.words words.old) }
+        ensures after { self.new ≡ after_by geometry.now self.old
+            (old_by (next_by geometry.now self.old) (W.words words.old)) }
         ensures turned { result
-            ≡ turned_by self.old (old_by (next_by self.old) (W.words words.old)) }
+            ≡ turned_by self.old (old_by (next_by geometry.now self.old) (W.words words.old)) }
         ensures transition { IsTransition geometry.now self.new }
     {
         self.progress.turn(geometry, &self.places, self.task, words)
@@ -121,7 +122,7 @@ impl Transition {
         self.progress.take_run(self.task, most)
     }
 
-    /// Whether the last act was a lock that wasn't free.
+    /// Whether the last act was a lock that wasn't free, or a load of a duty word that wasn't 0.
     pub fn waits(&self) -> bool
         ensures { result ≡ self.now.waited }
     {

@@ -12,3 +12,7 @@ on_act g cpu = act.Store (place_of g (Duty cpu)) 1
 -- it has ended the access
 abbrev pub off_act : GeometryData → ℕ → Act
 off_act g cpu = act.Store (place_of g (Duty cpu)) 0
+
+-- a barrier loads the duty word of a processor
+abbrev pub barrier_load : GeometryData → ℕ → Act
+barrier_load g cpu = act.Load (place_of g (Duty cpu))

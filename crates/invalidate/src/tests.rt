@@ -61,3 +61,35 @@ fn duty_words_stand_after_the_generations(rt: HostRuntime) -> Result<(), Fail> {
     }
     Ok(())
 }
+
+#[test]
+fn a_barrier_passes_each_processor_in_its_order(rt: HostRuntime) -> Result<(), Fail> {
+    // The geometry has 32 processors, the barrier two of them.
+    let geometry = all_blocks(4)?;
+    assert!(rt; geometry.cpus() >= 2);
+    let mut barrier = Barrier::new(2);
+    let (first, second) = (Some(Act::Load(2186)), Some(Act::Load(2187)));
+    assert_eq!(rt; barrier.next(&geometry), first);
+    assert!(rt; !barrier.took(1));
+    assert_eq!(rt; barrier.next(&geometry), first);
+    assert!(rt; !barrier.took(0x8000_0000_0000_0000));
+    assert_eq!(rt; barrier.next(&geometry), first);
+    assert!(rt; barrier.took(0));
+    assert_eq!(rt; barrier.next(&geometry), second);
+    assert!(rt; !barrier.took(1));
+    assert_eq!(rt; barrier.next(&geometry), second);
+    assert!(rt; !barrier.is_over());
+    assert!(rt; barrier.took(0));
+    assert_eq!(rt; barrier.next(&geometry), None);
+    assert!(rt; barrier.is_over());
+    Ok(())
+}
+
+#[test]
+fn a_barrier_without_processors_is_over(rt: HostRuntime) -> Result<(), Fail> {
+    let geometry = all_blocks(64)?;
+    let barrier = Barrier::new(0);
+    assert!(rt; barrier.is_over());
+    assert_eq!(rt; barrier.next(&geometry), None);
+    Ok(())
+}

@@ -1,12 +1,12 @@
 -- Processors after an act are processors, one with an access left has a next act, and acts keep to the words of the geometry.
-use Rattle.std.proofs.Common.{◌≡◌, ℕ, zero, suc, ◌+◌, ◌/◌, ◌≤◌, ◌<◌, ◌⊎◌, ◌++◌, ◌∷◌, [], List, Bool, true, false, not, Some, None, Option, length, drop, refl, sym, ap, ◌∙◌, subst, arith, inl, inr, length-append, length-drop, if◌then◌else◌}
+use Rattle.std.proofs.Common.{◌≡◌, ◌≢◌, ℕ, zero, suc, ◌+◌, ◌/◌, ◌≤◌, ◌<◌, ◌⊎◌, ◌++◌, ◌∷◌, [], List, Bool, true, false, not, Some, None, Option, length, drop, refl, sym, ap, ◌∙◌, subst, arith, inl, inr, length-append, length-drop, if◌then◌else◌}
 use Rattle.std.specs.Prelude.{slice_get, is_some, ◌==◌}
 use Rattle.std.specs.List.{All}
 use Rattle.std.specs.Option.{option_map}
 use Rattle.std.proofs.lemmas.Option.{slice_get_within, get_or_from_slice_get}
 use Rattle.gpi_values.specs.declared.gpi.Space.{Space}
 use Rattle.gpt_descriptors.specs.Sizes.{size_bytes, space_bytes, tag_size_of}
-use Rattle.gpt_descriptors.specs.Places.{GeometryData, IsGeometry, WordName, IsWordName, Generation, Duty, Level1, place_of, word_count, l1_index_of, l1_place_of, gen_place_of, block_gpi_of}
+use Rattle.gpt_descriptors.specs.Places.{GeometryData, IsGeometry, WordName, IsWordName, Generation, Duty, Level1, Line, place_of, word_count, l1_words, l1_index_of, l1_place_of, line_place_of, gen_place_of, block_gpi_of}
 use Rattle.gpt_descriptors.proofs.PlaceLemmas.{generation_named, index_within, place_below, unblocked_index}
 use Rattle.shared_words.specs.declared.act.Act.{Act}
 use Rattle.shared_words.specs.declared.act.Act.TheVariants as act
@@ -23,15 +23,17 @@ use Rattle.gpt_descriptors.specs.declared.size.Generations.{Generations}
 use Rattle.gpt_descriptors.specs.Sizes.{with_generation}
 use Rattle.invalidate.specs.Duty.{on_act, off_act}
 use Rattle.invalidate.specs.Generations.{gen_load_of}
+use Rattle.alias_clean.specs.Lines.{line_mask, touch_of}
 use Rattle.std.proofs.lemmas.List.Elements.{All-nil}
 use Rattle.gpi_values.specs.declared.gpi.Gpi.{Gpi}
 use Rattle.walk_cache.specs.declared.walk.Walk.{Walk}
 use Rattle.walk_cache.specs.Rings.{RingData, IsRing, newest_of}
+use Rattle.history.specs.declared.call.Access.{Access}
 use Rattle.history.specs.declared.call.OldWalk.{OldWalk}
 use Rattle.history.specs.declared.call.Via.{Via}
 use Rattle.history.specs.declared.call.Via.TheVariants as via
-use Rattle.processor.specs.Accesses.{walk_of, walk_gpi}
-use Rattle.processor.specs.InnerProgress.{act_at, no_generations, old_walk, after_search, after_decision, after_load, after_word, after_at, ring_after, answer_at}
+use Rattle.processor.specs.Accesses.{walk_of, walk_gpi, table_access}
+use Rattle.processor.specs.InnerProgress.{act_at, no_generations, old_walk, after_search, decided_stage, after_decision, after_load, after_word, after_at, ring_after, answer_at}
 use Rattle.processor.specs.InnerCpus.{CpuData, IsCpu, IsAt, IsAccessAt, IsWalk, HasActs, task_of, idle_answer, answered_first, idle_answers, fresh, has_ended, next_at, next_of, after_answer, goes_to, ends_or_goes, took_at, took_of, duty_at}
 use Rattle.processor.proofs.WalkLemmas.{ring_is, ring_walks, ring_keeps, after_is}
 
@@ -180,25 +182,38 @@ look_place g pa space is inside acts =
 
 -- ---- a next act is there
 
-act_there : (g : GeometryData) (p pa place : ℕ) (s : Stage) → l1_place_of g pa ≡ Some place → is_some (act_at g p pa s) ≡ true
-act_there g p pa place stage.Starting there = refl
-act_there g p pa place (stage.Trying w) there = refl
-act_there g p pa place (stage.Loading z k m) there = refl
-act_there g p pa place (stage.Walking k m) there = rw there refl
-act_there g p pa place (stage.Closing w m) there = refl
-act_there g p pa place (stage.Leaving a) there = refl
+pub some_mapped : {X Y : Type 0} (f : X → Y) (o : Option X) (y : Y) → option_map f o ≡ Some y → (x : X) × (o ≡ Some x) × (f x ≡ y)
+some_mapped f None y e = absurd cc
+some_mapped f (Some x) y e = (x, refl, cc)
+
+-- an address with an L1 word has a line
+pub touch_there : (g : GeometryData) (pa place : ℕ) (space : Space) → l1_place_of g pa ≡ Some place → (touch : Act) × (touch_of g pa space ≡ Some touch)
+touch_there g pa place space there =
+    let index = some_mapped (λ (i : ℕ). place_of g (Level1 i)) (l1_index_of g pa) place there in (
+      act.Or (place_of g (Line index.0)) (line_mask g pa space),
+      ap (λ (o : Option ℕ). option_map (λ (at : ℕ). act.Or at (line_mask g pa space)) (option_map (λ (i : ℕ). place_of g (Line i)) o)) index.1,
+    )
+
+act_there : (g : GeometryData) (p pa place : ℕ) (space : Space) (s : Stage) → l1_place_of g pa ≡ Some place → is_some (act_at g p pa space s) ≡ true
+act_there g p pa place space stage.Starting there = refl
+act_there g p pa place space (stage.Trying w) there = refl
+act_there g p pa place space (stage.Loading z k m) there = refl
+act_there g p pa place space (stage.Walking k m) there = rw there refl
+act_there g p pa place space (stage.Closing w m) there = refl
+act_there g p pa place space (stage.Touching a) there = ap (λ (o : Option Act). is_some o) (touch_there g pa place space there).1
+act_there g p pa place space (stage.Leaving a) there = refl
 
 next_at_there : (q : CpuData) (o : Option Task) → IsCpu q → task_of q ≡ o → is_some (next_at q o) ≡ is_some o
 next_at_there q None is under_way = refl
 next_at_there q (Some (task.Look pa space)) is under_way =
     let there = look_place q.geometry pa space is.geometry (access_at q (task.Look pa space) is under_way) (acts_at q (task.Look pa space) is under_way) in
-    act_there q.geometry q.number pa there.0 q.stage there.1
+    act_there q.geometry q.number pa there.0 space q.stage there.1
 next_at_there q (Some (task.Delegate pa source)) is under_way = absurd (access_at q (task.Delegate pa source) is under_way)
 next_at_there q (Some (task.Undelegate pa source)) is under_way = absurd (access_at q (task.Undelegate pa source) is under_way)
 next_at_there q (Some task.Unknown) is under_way = absurd (access_at q task.Unknown is under_way)
 
 -- an access under way has a next act
-pub look_acts : (q : CpuData) (pa : ℕ) (space : Space) → IsCpu q → task_of q ≡ Some (task.Look pa space) → is_some (act_at q.geometry q.number pa q.stage) ≡ true
+pub look_acts : (q : CpuData) (pa : ℕ) (space : Space) → IsCpu q → task_of q ≡ Some (task.Look pa space) → is_some (act_at q.geometry q.number pa space q.stage) ≡ true
 look_acts q pa space is under_way = next_at_there q (Some (task.Look pa space)) is under_way
 
 pub look_made : (q : CpuData) (pa : ℕ) (space : Space) → IsCpu q → task_of q ≡ Some (task.Look pa space) → is_some (next_of q) ≡ true
@@ -213,14 +228,10 @@ pub next_there : (q : CpuData) → IsCpu q → is_some (next_of q) ≡ not (has_
 next_there q is = next_at_there q (task_of q) is refl ∙ not_not (task_of q)
 
 -- it is that of the access under way
-pub look_next : (q : CpuData) (pa : ℕ) (space : Space) → task_of q ≡ Some (task.Look pa space) → next_of q ≡ act_at q.geometry q.number pa q.stage
+pub look_next : (q : CpuData) (pa : ℕ) (space : Space) → task_of q ≡ Some (task.Look pa space) → next_of q ≡ act_at q.geometry q.number pa space q.stage
 look_next q pa space under_way = rw under_way refl
 
 -- ---- places
-
-pub some_mapped : {X Y : Type 0} (f : X → Y) (o : Option X) (y : Y) → option_map f o ≡ Some y → (x : X) × (o ≡ Some x) × (f x ≡ y)
-some_mapped f None y e = absurd cc
-some_mapped f (Some x) y e = (x, refl, cc)
 
 -- the act is made on this word
 abbrev IsOn : GeometryData → Act → WordName → Type 0
@@ -230,32 +241,46 @@ generation_word : (g : GeometryData) (z : Size) (pa : ℕ) (next : Act) → pa <
 generation_word g z pa next inside e =
     let same : act.Load (place_of g (Generation z (pa / size_bytes z))) ≡ next = cc in (Generation z (pa / size_bytes z), (generation_named g z pa inside, ap place_in (sym same)))
 
-act_word : (g : GeometryData) (p pa : ℕ) (s : Stage) (next : Act) → IsGeometry g → p < g.cpus → pa < space_bytes g.setup → act_at g p pa s ≡ Some next → (n : WordName) × IsOn g next n
-act_word g p pa stage.Starting next is cpu inside e = (Duty p, (cpu, let same : place_of g (Duty p) ≡ place_in next = cc in sym same))
-act_word g p pa (stage.Trying w) next is cpu inside e = generation_word g (tag_size_of w.reach) pa next inside e
-act_word g p pa (stage.Loading z k m) next is cpu inside e = generation_word g z pa next inside e
-act_word g p pa (stage.Walking k m) next is cpu inside e =
+-- a touch is on a line word
+touch_line : (g : GeometryData) (pa : ℕ) (space : Space) (next : Act) → touch_of g pa space ≡ Some next → (i : ℕ) × (l1_index_of g pa ≡ Some i) × (place_in next ≡ place_of g (Line i))
+touch_line g pa space next e =
+    let touch = some_mapped (λ (at : ℕ). act.Or at (line_mask g pa space)) (line_place_of g pa) next e in
+    let index = some_mapped (λ (i : ℕ). place_of g (Line i)) (l1_index_of g pa) touch.0 touch.1 in
+    (index.0, index.1, ap place_in (sym touch.2) ∙ sym index.2)
+
+act_word : (g : GeometryData) (p pa : ℕ) (space : Space) (s : Stage) (next : Act) → IsGeometry g → p < g.cpus → pa < space_bytes g.setup → act_at g p pa space s ≡ Some next
+    → (n : WordName) × IsOn g next n
+act_word g p pa space stage.Starting next is cpu inside e = (Duty p, (cpu, let same : place_of g (Duty p) ≡ place_in next = cc in sym same))
+act_word g p pa space (stage.Trying w) next is cpu inside e = generation_word g (tag_size_of w.reach) pa next inside e
+act_word g p pa space (stage.Loading z k m) next is cpu inside e = generation_word g z pa next inside e
+act_word g p pa space (stage.Walking k m) next is cpu inside e =
     let load = some_mapped act.Load (l1_place_of g pa) next e in
     let index = some_mapped (λ (i : ℕ). place_of g (Level1 i)) (l1_index_of g pa) load.0 load.1 in
     (Level1 index.0, (index_within g pa index.0 is index.1, ap place_in (sym load.2) ∙ sym index.2))
-act_word g p pa (stage.Closing w m) next is cpu inside e = generation_word g (tag_size_of w.reach) pa next inside e
-act_word g p pa (stage.Leaving a) next is cpu inside e = (Duty p, (cpu, let same : place_of g (Duty p) ≡ place_in next = cc in sym same))
+act_word g p pa space (stage.Closing w m) next is cpu inside e = generation_word g (tag_size_of w.reach) pa next inside e
+act_word g p pa space (stage.Touching a) next is cpu inside e = let line = touch_line g pa space next e in (Line line.0, (index_within g pa line.0 is line.1, line.2))
+act_word g p pa space (stage.Leaving a) next is cpu inside e = (Duty p, (cpu, let same : place_of g (Duty p) ≡ place_in next = cc in sym same))
 
-generation_writes : (g : GeometryData) (p pa : ℕ) (z : Size) (next : Act) → Some (gen_load_of g z pa) ≡ Some next → (next ≡ act.Load (place_in next)) ⊎ (place_in next ≡ place_of g (Duty p))
-generation_writes g p pa z next e = let same : act.Load (gen_place_of g z pa) ≡ next = cc in rw (← same) (inl refl)
+generation_load : (g : GeometryData) (pa : ℕ) (z : Size) (next : Act) → Some (gen_load_of g z pa) ≡ Some next → next ≡ act.Load (place_in next)
+generation_load g pa z next e = let same : act.Load (gen_place_of g z pa) ≡ next = cc in rw (← same) refl
 
-act_writes : (g : GeometryData) (p pa : ℕ) (s : Stage) (next : Act) → act_at g p pa s ≡ Some next → (next ≡ act.Load (place_in next)) ⊎ (place_in next ≡ place_of g (Duty p))
-act_writes g p pa stage.Starting next e = let same : place_of g (Duty p) ≡ place_in next = cc in inr (sym same)
-act_writes g p pa (stage.Trying w) next e = generation_writes g p pa (tag_size_of w.reach) next e
-act_writes g p pa (stage.Loading z k m) next e = generation_writes g p pa z next e
-act_writes g p pa (stage.Walking k m) next e = let load = some_mapped act.Load (l1_place_of g pa) next e in rw (← load.2) (inl refl)
-act_writes g p pa (stage.Closing w m) next e = generation_writes g p pa (tag_size_of w.reach) next e
-act_writes g p pa (stage.Leaving a) next e = let same : place_of g (Duty p) ≡ place_in next = cc in inr (sym same)
+-- the act only loads, or is on the own duty word, or is a touch
+abbrev ActWrites : GeometryData → ℕ → ℕ → Space → Act → Type 0
+ActWrites g p pa space next = (next ≡ act.Load (place_in next)) ⊎ ((place_in next ≡ place_of g (Duty p)) ⊎ (touch_of g pa space ≡ Some next))
+
+act_writes : (g : GeometryData) (p pa : ℕ) (space : Space) (s : Stage) (next : Act) → act_at g p pa space s ≡ Some next → ActWrites g p pa space next
+act_writes g p pa space stage.Starting next e = let same : place_of g (Duty p) ≡ place_in next = cc in inr (inl (sym same))
+act_writes g p pa space (stage.Trying w) next e = inl (generation_load g pa (tag_size_of w.reach) next e)
+act_writes g p pa space (stage.Loading z k m) next e = inl (generation_load g pa z next e)
+act_writes g p pa space (stage.Walking k m) next e = let load = some_mapped act.Load (l1_place_of g pa) next e in inl (rw (← load.2) refl)
+act_writes g p pa space (stage.Closing w m) next e = inl (generation_load g pa (tag_size_of w.reach) next e)
+act_writes g p pa space (stage.Touching a) next e = inr (inr e)
+act_writes g p pa space (stage.Leaving a) next e = let same : place_of g (Duty p) ≡ place_in next = cc in inr (inl (sym same))
 
 next_at_word : (q : CpuData) (o : Option Task) (next : Act) → IsCpu q → task_of q ≡ o → next_at q o ≡ Some next → (n : WordName) × IsOn q.geometry next n
 next_at_word q None next is under_way e = absurd cc
 next_at_word q (Some (task.Look pa space)) next is under_way e =
-    act_word q.geometry q.number pa q.stage next is.geometry is.number (access_at q (task.Look pa space) is under_way) e
+    act_word q.geometry q.number pa space q.stage next is.geometry is.number (access_at q (task.Look pa space) is under_way) e
 next_at_word q (Some (task.Delegate pa source)) next is under_way e = absurd cc
 next_at_word q (Some (task.Undelegate pa source)) next is under_way e = absurd cc
 next_at_word q (Some task.Unknown) next is under_way e = absurd cc
@@ -268,16 +293,30 @@ pub next_below : (q : CpuData) (next : Act) → IsCpu q → next_of q ≡ Some n
 next_below q next is e =
     let on = next_at_word q (task_of q) next is refl e in subst (λ (n : ℕ). n < word_count q.geometry) (sym on.1.1) (place_below q.geometry on.0 on.1.0)
 
-next_at_writes : (q : CpuData) (o : Option Task) (next : Act) → next_at q o ≡ Some next → (next ≡ act.Load (place_in next)) ⊎ (place_in next ≡ place_of q.geometry (Duty q.number))
-next_at_writes q None next e = absurd cc
-next_at_writes q (Some (task.Look pa space)) next e = act_writes q.geometry q.number pa q.stage next e
-next_at_writes q (Some (task.Delegate pa source)) next e = absurd cc
-next_at_writes q (Some (task.Undelegate pa source)) next e = absurd cc
-next_at_writes q (Some task.Unknown) next e = absurd cc
+-- a touch of the access under way
+abbrev TouchesOf : CpuData → Act → Type 0
+TouchesOf q next = (pa : ℕ) × (space : Space) × (task_of q ≡ Some (task.Look pa space)) × (touch_of q.geometry pa space ≡ Some next)
 
--- and is a load or on the own duty word
-pub next_writes : (q : CpuData) (next : Act) → IsCpu q → next_of q ≡ Some next → (next ≡ act.Load (place_in next)) ⊎ (place_in next ≡ place_of q.geometry (Duty q.number))
-next_writes q next is e = next_at_writes q (task_of q) next e
+abbrev NextWrites : CpuData → Act → Type 0
+NextWrites q next = (next ≡ act.Load (place_in next)) ⊎ ((place_in next ≡ place_of q.geometry (Duty q.number)) ⊎ TouchesOf q next)
+
+look_writes : (q : CpuData) (pa : ℕ) (space : Space) (next : Act) → task_of q ≡ Some (task.Look pa space) → ActWrites q.geometry q.number pa space next → NextWrites q next
+look_writes q pa space next under_way (inl load) = inl load
+look_writes q pa space next under_way (inr (inl duty)) = inr (inl duty)
+look_writes q pa space next under_way (inr (inr touch)) = inr (inr (pa, space, under_way, touch))
+
+next_at_writes : (q : CpuData) (o : Option Task) (next : Act) → task_of q ≡ o → next_at q o ≡ Some next → NextWrites q next
+next_at_writes q None next under_way e = absurd cc
+next_at_writes q (Some (task.Look pa space)) next under_way e = look_writes q pa space next under_way (act_writes q.geometry q.number pa space q.stage next e)
+next_at_writes q (Some (task.Delegate pa source)) next under_way e = absurd cc
+next_at_writes q (Some (task.Undelegate pa source)) next under_way e = absurd cc
+next_at_writes q (Some task.Unknown) next under_way e = absurd cc
+
+-- and is a load, or on the own duty word, or a touch
+pub next_writes : (q : CpuData) (next : Act) → IsCpu q → next_of q ≡ Some next
+    → (next ≡ act.Load (place_in next))
+    ⊎ ((place_in next ≡ place_of q.geometry (Duty q.number)) ⊎ ((pa : ℕ) × (space : Space) × (task_of q ≡ Some (task.Look pa space)) × (touch_of q.geometry pa space ≡ Some next)))
+next_writes q next is e = next_at_writes q (task_of q) next refl e
 
 -- ---- the duty word
 
@@ -285,13 +324,16 @@ search_duty : (o : Option Walk) → duty_at (after_search o) ≡ 1
 search_duty None = refl
 search_duty (Some w) = refl
 
-decision_duty : (s : Stage) (o : Option Gpi) (space : Space) (v : Via) → duty_at s ≡ 1 → duty_at (after_decision s o space v) ≡ 1
-decision_duty s None space v on = on
-decision_duty s (Some gpi) space v on = refl
-
 choice_duty : (b : Bool) (s t : Stage) → duty_at s ≡ 1 → duty_at t ≡ 1 → duty_at (if b then s else t) ≡ 1
 choice_duty true s t on_s on_t = on_s
 choice_duty false s t on_s on_t = on_t
+
+decided_duty : (a : Access) → duty_at (decided_stage a) ≡ 1
+decided_duty a = choice_duty a.allowed (stage.Touching a) (stage.Leaving a) refl refl
+
+decision_duty : (s : Stage) (o : Option Gpi) (space : Space) (v : Via) → duty_at s ≡ 1 → duty_at (after_decision s o space v) ≡ 1
+decision_duty s None space v on = on
+decision_duty s (Some gpi) space v on = decided_duty (table_access space gpi v)
 
 loaded_duty : (z : Size) (k : Generations) (m : Option OldWalk) → duty_at (after_load z k m) ≡ 1
 loaded_duty size.Two k m = refl
@@ -302,28 +344,69 @@ word_duty : (k : Generations) (m : Option OldWalk) (o : Option Walk) → duty_at
 word_duty k m None = refl
 word_duty k m (Some w) = refl
 
-look_duty : (q : CpuData) (p pa : ℕ) (space : Space) (s : Stage) (next : Act) (old : ℕ) → act_at q.geometry p pa s ≡ Some next
-    → written next (duty_at s) ≡ duty_at (ends_or_goes q (answer_at s) (ring_after s q.cache) (after_at q.geometry q.cache.walks pa space s old)).stage
-look_duty q p pa space stage.Starting next old e = let same : on_act q.geometry p ≡ next = cc in rw (← same) (sym (search_duty (newest_of q.cache.walks pa)))
-look_duty q p pa space (stage.Trying w) next old e =
-    let same : gen_load_of q.geometry (tag_size_of w.reach) pa ≡ next = cc in
-    rw (← same) (sym (choice_duty (old == w.tag) _ (stage.Loading size.Two no_generations (Some (old_walk w old)))
-    (decision_duty (stage.Trying w) (walk_gpi q.geometry pa w) space (via.Hit w.reach w.tag) refl) refl))
-look_duty q p pa space (stage.Loading z k m) next old e = let same : gen_load_of q.geometry z pa ≡ next = cc in rw (← same) (sym (loaded_duty z (with_generation z old k) m))
-look_duty q p pa space (stage.Walking k m) next old e =
+-- the stage after an act
+abbrev stage_after : CpuData → ℕ → Space → Stage → ℕ → Stage
+stage_after q pa space s old = (ends_or_goes q (answer_at s) (ring_after s q.cache) (after_at q.geometry q.cache.walks pa space s old)).stage
+
+-- loads and touches are made between its setting and its clearing
+search_stays : (q : CpuData) (pa : ℕ) (space : Space) (w : Walk) (old : ℕ) → duty_at (stage_after q pa space (stage.Trying w) old) ≡ 1
+search_stays q pa space w old =
+    choice_duty (old == w.tag) _ (stage.Loading size.Two no_generations (Some (old_walk w old))) (decision_duty (stage.Trying w) (walk_gpi q.geometry pa w) space (via.Hit w.reach w.tag) refl) refl
+
+close_stays : (q : CpuData) (pa : ℕ) (space : Space) (w : Walk) (m : Option OldWalk) (old : ℕ) → duty_at (stage_after q pa space (stage.Closing w m) old) ≡ 1
+close_stays q pa space w m old = decision_duty (stage.Closing w m) (walk_gpi q.geometry pa w) space _ refl
+
+-- a line word is no duty word
+line_elsewhere : (g : GeometryData) (p pa : ℕ) (space : Space) (next : Act) → p < g.cpus → touch_of g pa space ≡ Some next → place_in next ≢ place_of g (Duty p)
+line_elsewhere g p pa space next cpu e here =
+    let line = touch_line g pa space next e in
+    let same : place_of g (Line line.0) ≡ place_of g (Duty p) = sym line.2 ∙ here in
+    omega (arith, same, cpu)
+
+look_duty : (q : CpuData) (p pa : ℕ) (space : Space) (s : Stage) (next : Act) (old : ℕ) → p < q.geometry.cpus → act_at q.geometry p pa space s ≡ Some next
+    → place_in next ≡ place_of q.geometry (Duty p) → written next (duty_at s) ≡ duty_at (stage_after q pa space s old)
+look_duty q p pa space stage.Starting next old cpu e here = let same : on_act q.geometry p ≡ next = cc in rw (← same) (sym (search_duty (newest_of q.cache.walks pa)))
+look_duty q p pa space (stage.Trying w) next old cpu e here =
+    let same : gen_load_of q.geometry (tag_size_of w.reach) pa ≡ next = cc in rw (← same) (sym (search_stays q pa space w old))
+look_duty q p pa space (stage.Loading z k m) next old cpu e here = let same : gen_load_of q.geometry z pa ≡ next = cc in rw (← same) (sym (loaded_duty z (with_generation z old k) m))
+look_duty q p pa space (stage.Walking k m) next old cpu e here =
     let load = some_mapped act.Load (l1_place_of q.geometry pa) next e in rw (← load.2) (sym (word_duty k m (walk_of pa k old)))
-look_duty q p pa space (stage.Closing w m) next old e =
-    let same : gen_load_of q.geometry (tag_size_of w.reach) pa ≡ next = cc in
-    rw (← same) (sym (decision_duty (stage.Closing w m) (walk_gpi q.geometry pa w) space _ refl))
-look_duty q p pa space (stage.Leaving a) next old e = let same : off_act q.geometry p ≡ next = cc in rw (← same) refl
+look_duty q p pa space (stage.Closing w m) next old cpu e here =
+    let same : gen_load_of q.geometry (tag_size_of w.reach) pa ≡ next = cc in rw (← same) (sym (close_stays q pa space w m old))
+look_duty q p pa space (stage.Touching a) next old cpu e here = absurd (line_elsewhere q.geometry p pa space next cpu e here)
+look_duty q p pa space (stage.Leaving a) next old cpu e here = let same : off_act q.geometry p ≡ next = cc in rw (← same) refl
 
-next_at_duty : (q : CpuData) (o : Option Task) (next : Act) (old : ℕ) → next_at q o ≡ Some next → written next (duty_at q.stage) ≡ duty_at (took_at q o old).stage
-next_at_duty q None next old e = absurd cc
-next_at_duty q (Some (task.Look pa space)) next old e = look_duty q q.number pa space q.stage next old e
-next_at_duty q (Some (task.Delegate pa source)) next old e = absurd cc
-next_at_duty q (Some (task.Undelegate pa source)) next old e = absurd cc
-next_at_duty q (Some task.Unknown) next old e = absurd cc
+next_at_duty : (q : CpuData) (o : Option Task) (next : Act) (old : ℕ) → q.number < q.geometry.cpus → next_at q o ≡ Some next → place_in next ≡ place_of q.geometry (Duty q.number)
+    → written next (duty_at q.stage) ≡ duty_at (took_at q o old).stage
+next_at_duty q None next old cpu e here = absurd cc
+next_at_duty q (Some (task.Look pa space)) next old cpu e here = look_duty q q.number pa space q.stage next old cpu e here
+next_at_duty q (Some (task.Delegate pa source)) next old cpu e here = absurd cc
+next_at_duty q (Some (task.Undelegate pa source)) next old cpu e here = absurd cc
+next_at_duty q (Some task.Unknown) next old cpu e here = absurd cc
 
--- an act leaves it as it is after the act
-pub next_duty : (q : CpuData) (next : Act) (old : ℕ) → next_of q ≡ Some next → written next (duty_at q.stage) ≡ duty_at (took_of q old).stage
-next_duty q next old e = next_at_duty q (task_of q) next old e
+-- an act on it leaves it as it is after the act
+pub next_duty : (q : CpuData) (next : Act) (old : ℕ) → IsCpu q → next_of q ≡ Some next → place_in next ≡ place_of q.geometry (Duty q.number)
+    → written next (duty_at q.stage) ≡ duty_at (took_of q old).stage
+next_duty q next old is e here = next_at_duty q (task_of q) next old is.number e here
+
+look_other : (q : CpuData) (p pa : ℕ) (space : Space) (s : Stage) (next : Act) (old : ℕ) → act_at q.geometry p pa space s ≡ Some next → place_in next ≢ place_of q.geometry (Duty p)
+    → duty_at (stage_after q pa space s old) ≡ duty_at s
+look_other q p pa space stage.Starting next old e elsewhere = let same : place_of q.geometry (Duty p) ≡ place_in next = cc in absurd (elsewhere (sym same))
+look_other q p pa space (stage.Trying w) next old e elsewhere = search_stays q pa space w old
+look_other q p pa space (stage.Loading z k m) next old e elsewhere = loaded_duty z (with_generation z old k) m
+look_other q p pa space (stage.Walking k m) next old e elsewhere = word_duty k m (walk_of pa k old)
+look_other q p pa space (stage.Closing w m) next old e elsewhere = close_stays q pa space w m old
+look_other q p pa space (stage.Touching a) next old e elsewhere = refl
+look_other q p pa space (stage.Leaving a) next old e elsewhere = let same : place_of q.geometry (Duty p) ≡ place_in next = cc in absurd (elsewhere (sym same))
+
+next_at_other : (q : CpuData) (o : Option Task) (next : Act) (old : ℕ) → next_at q o ≡ Some next → place_in next ≢ place_of q.geometry (Duty q.number)
+    → duty_at (took_at q o old).stage ≡ duty_at q.stage
+next_at_other q None next old e elsewhere = absurd cc
+next_at_other q (Some (task.Look pa space)) next old e elsewhere = look_other q q.number pa space q.stage next old e elsewhere
+next_at_other q (Some (task.Delegate pa source)) next old e elsewhere = absurd cc
+next_at_other q (Some (task.Undelegate pa source)) next old e elsewhere = absurd cc
+next_at_other q (Some task.Unknown) next old e elsewhere = absurd cc
+
+-- an act on another word goes on with it as it is
+pub next_other : (q : CpuData) (next : Act) (old : ℕ) → next_of q ≡ Some next → place_in next ≢ place_of q.geometry (Duty q.number) → duty_at (took_of q old).stage ≡ duty_at q.stage
+next_other q next old e elsewhere = next_at_other q (task_of q) next old e elsewhere

@@ -29,7 +29,7 @@ use Rattle.history.specs.Legality.{is_still}
 use Rattle.history.specs.Stamps.{walked}
 use Rattle.processor.specs.Accesses.{block_answer, walk_of, walk_gpi, table_access, looked_entry}
 use Rattle.processor.specs.Script.{Decides}
-use Rattle.processor.specs.InnerProgress.{no_generations, old_walk, after_search, after_decision, after_word}
+use Rattle.processor.specs.InnerProgress.{no_generations, old_walk, after_search, decided_stage, after_decision, after_word}
 use Rattle.processor.specs.InnerScript.{IsPartOf, IsPrefix, HasWalked}
 use Rattle.processor.specs.InnerCpus.{CpuData, task_of, idle_answer, answered_first, idle_answers, fresh, next_at, next_of, after_answer, took_at, took_of}
 use Rattle.processor.specs.InnerEntries.{decided_entries, walk_entries, made_at, entries_at, own_entries}
@@ -134,11 +134,19 @@ searched_entry : (g : GeometryData) (c n pa : ℕ) (space : Space) (o : Option W
 searched_entry g c n pa space None before = sym (append-nil (before ++ []))
 searched_entry g c n pa space (Some w) before = sym (append-nil (before ++ []))
 
+-- after an access is decided
+decided_quiet : (g : GeometryData) (c n pa : ℕ) (space : Space) (a : Access) (b : Bool)
+    → entries_at g c n (if b then stage.Touching a else stage.Leaving a) (Some (task.Look pa space)) ≡ looked_entry g c n pa space a.gpi ∷ []
+decided_quiet g c n pa space a true = refl
+decided_quiet g c n pa space a false = refl
+
 -- after the load of the generation of the found walk
 hit_entry : (g : GeometryData) (c n pa : ℕ) (space : Space) (w : Walk) (o : Option Gpi) (v : Via) (before : List Entry)
     → before ++ entries_at g c n (after_decision (stage.Trying w) o space v) (Some (task.Look pa space)) ≡ (before ++ []) ++ decided_entries g c n pa space o
 hit_entry g c n pa space w None v before = sym (append-nil (before ++ []))
-hit_entry g c n pa space w (Some gpi) v before = ap (λ (es : List Entry). es ++ looked_entry g c n pa space gpi ∷ []) (sym (append-nil before))
+hit_entry g c n pa space w (Some gpi) v before =
+    let a : Access = table_access space gpi v in
+    ap (λ (es : List Entry). before ++ es) (decided_quiet g c n pa space a a.allowed) ∙ ap (λ (es : List Entry). es ++ looked_entry g c n pa space gpi ∷ []) (sym (append-nil before))
 
 tried_entry : (g : GeometryData) (c n pa : ℕ) (space : Space) (w : Walk) (old : ℕ) (b : Bool) (before : List Entry)
     → before ++ entries_at g c n (if b then after_decision (stage.Trying w) (walk_gpi g pa w) space (via.Hit w.reach w.tag) else stage.Loading size.Two no_generations (Some (old_walk w old)))
@@ -156,7 +164,9 @@ loaded_entry g c n pa space k m (Some w) before = ap (λ (es : List Entry). es +
 closed_entry : (g : GeometryData) (c n pa : ℕ) (space : Space) (w : Walk) (m : Option OldWalk) (o : Option Gpi) (v : Via) (before : List Entry) → walk_gpi g pa w ≡ o
     → before ++ entries_at g c n (after_decision (stage.Closing w m) o space v) (Some (task.Look pa space)) ≡ (before ++ decided_entries g c n pa space o) ++ []
 closed_entry g c n pa space w m None v before gives = rw gives (sym (append-nil (before ++ [])))
-closed_entry g c n pa space w m (Some gpi) v before gives = sym (append-nil (before ++ looked_entry g c n pa space gpi ∷ []))
+closed_entry g c n pa space w m (Some gpi) v before gives =
+    let a : Access = table_access space gpi v in
+    ap (λ (es : List Entry). before ++ es) (decided_quiet g c n pa space a a.allowed) ∙ sym (append-nil (before ++ looked_entry g c n pa space gpi ∷ []))
 
 -- an act that makes none
 no_entry : (es : List Entry) → es ≡ es ++ []
@@ -175,8 +185,9 @@ look_entries c d q pa space (stage.Loading size.FiveTwelve k m) kept last old he
 look_entries c d q pa space (stage.Walking k m) kept last old here is part = rw (is, here) (loaded_entry q.geometry c (length q.answers) pa space k m (walk_of pa k old) _)
 look_entries c d q pa space (stage.Closing w m) kept last old here is part =
     rw (is, here) (closed_entry q.geometry c (length q.answers) pa space w m (walk_gpi q.geometry pa w) (walked m w.reach w.tag old) _ refl)
+look_entries c d q pa space (stage.Touching a) kept last old here is part = rw (is, here) (no_entry _)
 look_entries c d q pa space (stage.Leaving a) kept last old here is part =
-    rw is (answered_entry c q pa space a here (decided_entry q.geometry q.number c d (length q.answers) pa space kept a q.cache.walks last part))
+    rw is (answered_entry c q pa space a here (decided_entry q.geometry q.number c d (length q.answers) pa space kept a q.cache.walks part.deciding part.decided))
 
 took_entries : (c d : ℕ) (q : CpuData) (o : Option Task) (kept : List Walk) (last : List CallEvent) (next : Act) (old : ℕ) → task_of q ≡ o → next_at q o ≡ Some next
     → IsPrefix q.geometry q.number d (length q.answers) kept q.cache.walks q.stage o last

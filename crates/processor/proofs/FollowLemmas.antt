@@ -1,5 +1,5 @@
 -- A processor that has come so far by some events follows its script by them.
-use Rattle.std.proofs.Common.{◌≡◌, ◌≢◌, ℕ, zero, suc, ◌≤◌, ◌<◌, ◌++◌, ◌∷◌, [], List, true, Option, Some, None, length, append_assoc, length-append, refl, sym, ap, subst, arith, inl, inr}
+use Rattle.std.proofs.Common.{◌≡◌, ◌≢◌, ℕ, zero, suc, ◌≤◌, ◌<◌, ◌++◌, ◌∷◌, [], List, Bool, true, false, Option, Some, None, length, append_assoc, length-append, refl, sym, ap, subst, arith, inl, inr, if◌then◌else◌}
 use Rattle.std.specs.Prelude.{slice_get, MatchOption}
 use Rattle.gpi_values.specs.declared.gpi.Gpi.{Gpi}
 use Rattle.gpi_values.specs.declared.gpi.Gpi.TheVariants as gpi
@@ -9,27 +9,30 @@ use Rattle.gpt_descriptors.specs.declared.size.Generations.{Generations}
 use Rattle.gpt_descriptors.specs.declared.size.Reach.TheVariants as reach
 use Rattle.gpt_descriptors.specs.Sizes.{with_generation}
 use Rattle.gpt_descriptors.specs.Places.{GeometryData, IsGeometry, l1_place_of, block_gpi_of}
+use Rattle.shared_words.specs.declared.act.Act.{Act}
 use Rattle.invalidate.specs.Duty.{off_act}
+use Rattle.alias_clean.specs.Lines.{touch_of}
 use Rattle.history.specs.declared.call.Task.{Task}
 use Rattle.history.specs.declared.call.Task.TheVariants as task
 use Rattle.history.specs.declared.call.Answer.{Answer}
 use Rattle.history.specs.Events.{CallEvent, plain}
+use Rattle.history.specs.Stamps.{walked}
 use Rattle.processor.specs.InnerProgress.{Stage}
 use Rattle.processor.specs.InnerProgress as stage
 use Rattle.invalidate.specs.Generations.{gen_load_of}
 use Rattle.gpt_descriptors.specs.Sizes.{tag_size_of}
 use Rattle.walk_cache.specs.declared.walk.Walk.{Walk}
-use Rattle.walk_cache.specs.Rings.{first_around, newest_of}
+use Rattle.walk_cache.specs.Rings.{first_around, newest_of, last_of}
 use Rattle.history.specs.declared.call.Access.{Access}
 use Rattle.history.specs.declared.call.OldWalk.{OldWalk}
 use Rattle.history.specs.declared.call.Answer.TheVariants as answer
-use Rattle.processor.specs.Accesses.{IsAccess}
-use Rattle.processor.specs.Script.{deciding_load, tries, loads, Decides, Looks, IsLook, IsCall, IsUnderWay, Follows}
+use Rattle.processor.specs.Accesses.{IsAccess, table_access}
+use Rattle.processor.specs.Script.{deciding_load, tries, loads, Decides, touches, Looks, IsLook, IsCall, IsUnderWay, Follows}
 use Rattle.processor.specs.InnerProgress.{no_generations, after_search}
 use Rattle.processor.specs.InnerCpus.{CpuData, IsCpu, task_of, idle_answer, has_ended}
 use Rattle.processor.specs.InnerScript.{IsPartOf, IsPrefix, HasWalked}
-use Rattle.processor.proofs.CpuLemmas.{access_at, acts_at, look_unblocked, look_place}
-use Rattle.processor.proofs.ScriptLemmas.{part_started, part_missed, part_loaded, part_found, part_closed, part_left}
+use Rattle.processor.proofs.CpuLemmas.{access_at, acts_at, look_unblocked, look_place, touch_there}
+use Rattle.processor.proofs.ScriptLemmas.{part_started, part_missed, part_loaded, part_found, part_closed, part_touched, part_left}
 
 -- more events make it whole
 record GoesOn (g : GeometryData) (p c n pa : ℕ) (space : Space) (kept : List Walk) (events : List CallEvent) : Type 0 where
@@ -62,10 +65,23 @@ leaving_goes g p c n pa space kept now a events part = record {
   proper = not_none (plain (off_act g p) 0) [];
 }
 
-closing_goes : (g : GeometryData) (p c n pa : ℕ) (space : Space) (kept now : List Walk) (w : Walk) (m : Option OldWalk) (events : List CallEvent)
+touching_goes : (g : GeometryData) (p c n pa : ℕ) (space : Space) (kept now : List Walk) (a : Access) (place : ℕ) (events : List CallEvent) → l1_place_of g pa ≡ Some place
+    → IsPartOf g p c n pa space kept now (stage.Touching a) events → GoesOn g p c n pa space kept events
+touching_goes g p c n pa space kept now a place events there part =
+    let touch = touch_there g pa place space there in
+    one_more g p c n pa space kept events _ (leaving_goes g p c n pa space kept now a _ (part_touched g p c n pa space kept now a touch.0 0 events part touch.1))
+
+decided_goes : (g : GeometryData) (p c n pa : ℕ) (space : Space) (kept now : List Walk) (a : Access) (b : Bool) (place : ℕ) (events : List CallEvent) → l1_place_of g pa ≡ Some place
+    → IsPartOf g p c n pa space kept now (if b then stage.Touching a else stage.Leaving a) events → GoesOn g p c n pa space kept events
+decided_goes g p c n pa space kept now a true place events there part = touching_goes g p c n pa space kept now a place events there part
+decided_goes g p c n pa space kept now a false place events there part = leaving_goes g p c n pa space kept now a events part
+
+closing_goes : (g : GeometryData) (p c n pa : ℕ) (space : Space) (kept now : List Walk) (w : Walk) (m : Option OldWalk) (place : ℕ) (events : List CallEvent) → l1_place_of g pa ≡ Some place
     → IsPartOf g p c n pa space kept now (stage.Closing w m) events → GoesOn g p c n pa space kept events
-closing_goes g p c n pa space kept now w m events part =
-    one_more g p c n pa space kept events _ (leaving_goes g p c n pa space kept _ _ _ (part_closed g p c n pa space kept now w m 0 events part))
+closing_goes g p c n pa space kept now w m place events there part =
+    let a : Access = table_access space part.1.gpi (walked m w.reach w.tag 0) in
+    one_more g p c n pa space kept events _
+    (decided_goes g p c n pa space kept (last_of g.setup.ring (now ++ w ∷ [])) a a.allowed place _ there (part_closed g p c n pa space kept now w m 0 events part))
 
 -- it may load the word of a contiguous block of no access
 walking_goes : (g : GeometryData) (p c n pa : ℕ) (space : Space) (kept now : List Walk) (k : Generations) (m : Option OldWalk) (place : ℕ) (events : List CallEvent) → l1_place_of g pa ≡ Some place
@@ -73,7 +89,7 @@ walking_goes : (g : GeometryData) (p c n pa : ℕ) (space : Space) (kept now : L
 walking_goes g p c n pa space kept now k m place events there part =
     let w : Walk = record { reach = reach.Two; first = first_around reach.Two pa; word = 257; tag = k.two } in
     one_more g p c n pa space kept events _
-    (closing_goes g p c n pa space kept now w m _ (part_found g p c n pa space kept now k m w gpi.NoAccess place 257 events part there refl refl))
+    (closing_goes g p c n pa space kept now w m place _ there (part_found g p c n pa space kept now k m w gpi.NoAccess place 257 events part there refl refl))
 
 last_load_goes : (g : GeometryData) (p c n pa : ℕ) (space : Space) (kept now : List Walk) (k : Generations) (m : Option OldWalk) (place : ℕ) (events : List CallEvent) → l1_place_of g pa ≡ Some place
     → IsPartOf g p c n pa space kept now (stage.Loading size.FiveTwelve k m) events → GoesOn g p c n pa space kept events
@@ -118,7 +134,8 @@ goes g p c n pa space kept now (stage.Loading size.Two k m) place events there p
 goes g p c n pa space kept now (stage.Loading size.ThirtyTwo k m) place events there part = second_load_goes g p c n pa space kept now k m place events there part
 goes g p c n pa space kept now (stage.Loading size.FiveTwelve k m) place events there part = last_load_goes g p c n pa space kept now k m place events there part
 goes g p c n pa space kept now (stage.Walking k m) place events there part = walking_goes g p c n pa space kept now k m place events there part
-goes g p c n pa space kept now (stage.Closing w m) place events there part = closing_goes g p c n pa space kept now w m events part
+goes g p c n pa space kept now (stage.Closing w m) place events there part = closing_goes g p c n pa space kept now w m place events there part
+goes g p c n pa space kept now (stage.Touching a) place events there part = touching_goes g p c n pa space kept now a place events there part
 goes g p c n pa space kept now (stage.Leaving a) place events there part = leaving_goes g p c n pa space kept now a events part
 
 look_under_way : (g : GeometryData) (p c n pa : ℕ) (space : Space) (kept now : List Walk) (s : Stage) (events : List CallEvent) → IsGeometry g → IsAccess g (task.Look pa space)
@@ -185,15 +202,29 @@ decides_few g p c n pa space kept given later events (inr walks) =
     (deciding_load g c n pa space walks.place walks.word walks.gpi ∷ plain (gen_load_of g (tag_size_of walks.walk.reach) pa) walks.hi ∷ []) in
     omega (arith, long, loaded, split, tries_few g pa walks.missed)
 
+touches_few : (o : Option Act) (b : Bool) (old : ℕ) → length (touches o b old) ≤ 1
+touches_few None b old = omega arith
+touches_few (Some touch) true old = omega arith
+touches_few (Some touch) false old = omega arith
+
 look_few : (g : GeometryData) (p c n pa : ℕ) (space : Space) (o : Option Gpi) (kept : List Walk) (given : Answer) (later : List Walk) (events : List CallEvent)
-    → IsLook g p c n pa space o kept given later events → length events ≤ 8
+    → IsLook g p c n pa space o kept given later events → length events ≤ 9
 look_few g p c n pa space (Some gpi) kept given later events look = let none = ap (λ (es : List CallEvent). length es) look.2 in omega (arith, none)
 look_few g p c n pa space None kept given later events look =
     let long = ap (λ (es : List CallEvent). length es) look.parts in
-    let split = length-append look.deciding (plain (off_act g p) look.cleared ∷ []) in
-    omega (arith, long, split, decides_few g p c n pa space kept look.access later look.deciding look.decided)
+    let touched : List CallEvent = touches (touch_of g pa space) look.access.allowed look.touched in
+    let split = length-append (look.deciding ++ touched) (plain (off_act g p) look.cleared ∷ []) in
+    let decided = length-append look.deciding touched in
+    omega (
+      arith,
+      long,
+      split,
+      decided,
+      touches_few (touch_of g pa space) look.access.allowed look.touched,
+      decides_few g p c n pa space kept look.access later look.deciding look.decided,
+    )
 
-pub call_few : (g : GeometryData) (p c n : ℕ) (t : Task) (kept : List Walk) (given : Answer) (later : List Walk) (events : List CallEvent) → IsCall g p c n t kept given later events → length events ≤ 8
+pub call_few : (g : GeometryData) (p c n : ℕ) (t : Task) (kept : List Walk) (given : Answer) (later : List Walk) (events : List CallEvent) → IsCall g p c n t kept given later events → length events ≤ 9
 call_few g p c n (task.Look pa space) kept given later events call = look_few g p c n pa space (block_gpi_of g pa) kept given later events call
 call_few g p c n (task.Delegate pa source) kept given later events call = absurd call
 call_few g p c n (task.Undelegate pa source) kept given later events call = absurd call
@@ -203,7 +234,7 @@ some_long : (rest : List CallEvent) → rest ≢ [] → 1 ≤ length rest
 some_long [] proper = absurd (proper refl)
 some_long (e ∷ rest) proper = omega arith
 
-pub under_way_few : (g : GeometryData) (p c n : ℕ) (t : Task) (kept : List Walk) (events : List CallEvent) → IsUnderWay g p c n t kept events → length events < 8
+pub under_way_few : (g : GeometryData) (p c n : ℕ) (t : Task) (kept : List Walk) (events : List CallEvent) → IsUnderWay g p c n t kept events → length events < 9
 under_way_few g p c n t kept events under_way =
     omega (
       arith,

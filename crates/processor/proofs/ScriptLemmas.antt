@@ -14,6 +14,7 @@ use Rattle.shared_words.specs.declared.act.Act.{Act}
 use Rattle.shared_words.specs.declared.act.Act.TheVariants as act
 use Rattle.invalidate.specs.Duty.{on_act, off_act}
 use Rattle.invalidate.specs.Generations.{gen_load_of}
+use Rattle.alias_clean.specs.Lines.{touch_of}
 use Rattle.walk_cache.specs.declared.walk.Walk.{Walk}
 use Rattle.walk_cache.specs.Rings.{RingData, newest_of, last_of}
 use Rattle.history.specs.declared.call.Task.{Task}
@@ -28,8 +29,8 @@ use Rattle.history.specs.Stamps.{walked}
 use Rattle.processor.specs.InnerProgress.{Stage}
 use Rattle.processor.specs.InnerProgress as stage
 use Rattle.processor.specs.Accesses.{block_answer, walk_of, walk_gpi, table_access}
-use Rattle.processor.specs.Script.{deciding_load, IsMissed, tries, loads, Looks, IsLook, IsCall, AreCallEvents}
-use Rattle.processor.specs.InnerProgress.{act_at, no_generations, old_walk, after_search, after_try, after_load, after_at, ring_after}
+use Rattle.processor.specs.Script.{deciding_load, IsMissed, tries, loads, Decides, touches, Looks, IsLook, IsCall, AreCallEvents}
+use Rattle.processor.specs.InnerProgress.{act_at, no_generations, old_walk, after_search, decided_stage, after_try, after_load, after_at, ring_after}
 use Rattle.processor.specs.InnerCpus.{CpuData, IsCpu, IsReadable, IsAccessAt, task_of, idle_answer, answered_first, idle_answers, fresh, next_at, next_of, took_at, took_of}
 use Rattle.processor.specs.InnerEntries.{decided_entries, made_at}
 use Rattle.processor.specs.InnerScript.{HasLoaded, IsPartOf, IsPrefix, HasWalked, loads_before}
@@ -127,13 +128,34 @@ pub part_started : (g : GeometryData) (p c n pa : ℕ) (space : Space) (kept now
 part_started g p c n pa space kept now old events part =
     searched g p c n pa space kept now old (newest_of now pa) events part.0 part.1 (ap (λ (l : List Walk). newest_of l pa) (sym part.0))
 
+-- an access is decided: one that isn't allowed has no touch
+no_touch : (o : Option Act) (old : ℕ) → touches o false old ≡ []
+no_touch None old = refl
+no_touch (Some touch) old = refl
+
+one_touch : (o : Option Act) (touch : Act) (b : Bool) (old : ℕ) → o ≡ Some touch → b ≡ true → touches o b old ≡ plain touch old ∷ []
+one_touch o touch b old there allowed = rw (there, allowed) refl
+
+part_denied : (g : GeometryData) (p c n pa : ℕ) (space : Space) (kept now : List Walk) (a : Access) (events : List CallEvent) → a.allowed ≡ false → Decides g p c n pa space kept a now events
+    → IsPartOf g p c n pa space kept now (stage.Leaving a) events
+part_denied g p c n pa space kept now a events denied decided =
+    let none : touches (touch_of g pa space) a.allowed 0 ≡ [] = ap (λ (b : Bool). touches (touch_of g pa space) b 0) denied ∙ no_touch (touch_of g pa space) 0 in
+    record { deciding = events; touched = 0; decided = decided; parts = sym (append-nil events) ∙ ap (λ (es : List CallEvent). events ++ es) (sym none) }
+
+part_decided : (g : GeometryData) (p c n pa : ℕ) (space : Space) (kept now : List Walk) (a : Access) (b : Bool) (events : List CallEvent) → a.allowed ≡ b → Decides g p c n pa space kept a now events
+    → IsPartOf g p c n pa space kept now (if b then stage.Touching a else stage.Leaving a) events
+part_decided g p c n pa space kept now a true events allowed decided = (decided, allowed)
+part_decided g p c n pa space kept now a false events denied decided = part_denied g p c n pa space kept now a events denied decided
+
 -- the found walk decides
 pub part_hit : (g : GeometryData) (p c n pa : ℕ) (space : Space) (kept now : List Walk) (w : Walk) (gpi : Gpi) (events : List CallEvent)
     → IsPartOf g p c n pa space kept now (stage.Trying w) events → walk_gpi g pa w ≡ Some gpi
-    → IsPartOf g p c n pa space kept now (stage.Leaving (table_access space gpi (via.Hit w.reach w.tag)))
+    → IsPartOf g p c n pa space kept now (decided_stage (table_access space gpi (via.Hit w.reach w.tag)))
     (events ++ deciding_load g c n pa space (gen_place_of g (tag_size_of w.reach) pa) w.tag gpi ∷ [])
 part_hit g p c n pa space kept now w gpi events part gives =
-    inl (record { set = part.1.set; walk = w; gpi = gpi; newest = part.1.newest; gives = gives; parts = rw part.1.parts refl; is = refl }, part.0)
+    let a : Access = table_access space gpi (via.Hit w.reach w.tag) in
+    part_decided g p c n pa space kept now a a.allowed (events ++ deciding_load g c n pa space (gen_place_of g (tag_size_of w.reach) pa) w.tag gpi ∷ []) refl
+    (inl (record { set = part.1.set; walk = w; gpi = gpi; newest = part.1.newest; gives = gives; parts = rw part.1.parts refl; is = refl }, part.0))
 
 -- it is too old
 pub part_missed : (g : GeometryData) (p c n pa : ℕ) (space : Space) (kept now : List Walk) (w : Walk) (old : ℕ) (events : List CallEvent)
@@ -183,11 +205,11 @@ part_found g p c n pa space kept now k m w gpi place old events part there found
   },
 )
 
-pub part_closed : (g : GeometryData) (p c n pa : ℕ) (space : Space) (kept now : List Walk) (w : Walk) (m : Option OldWalk) (old : ℕ) (events : List CallEvent)
+walk_decides : (g : GeometryData) (p c n pa : ℕ) (space : Space) (kept now : List Walk) (w : Walk) (m : Option OldWalk) (old : ℕ) (events : List CallEvent)
     → (part : IsPartOf g p c n pa space kept now (stage.Closing w m) events)
-    → IsPartOf g p c n pa space kept (last_of g.setup.ring (now ++ w ∷ [])) (stage.Leaving (table_access space part.1.gpi (walked m w.reach w.tag old)))
+    → Decides g p c n pa space kept (table_access space part.1.gpi (walked m w.reach w.tag old)) (last_of g.setup.ring (now ++ w ∷ []))
     (events ++ plain (gen_load_of g (tag_size_of w.reach) pa) old ∷ [])
-part_closed g p c n pa space kept now w m old events part = inr (record {
+walk_decides g p c n pa space kept now w m old events part = inr (record {
   set = part.1.set;
   missed = m;
   generations = part.1.generations;
@@ -206,11 +228,38 @@ part_closed g p c n pa space kept now w m old events part = inr (record {
   noted = ap (λ (l : List Walk). last_of g.setup.ring (l ++ w ∷ [])) part.0;
 })
 
+pub part_closed : (g : GeometryData) (p c n pa : ℕ) (space : Space) (kept now : List Walk) (w : Walk) (m : Option OldWalk) (old : ℕ) (events : List CallEvent)
+    → (part : IsPartOf g p c n pa space kept now (stage.Closing w m) events)
+    → IsPartOf g p c n pa space kept (last_of g.setup.ring (now ++ w ∷ [])) (decided_stage (table_access space part.1.gpi (walked m w.reach w.tag old)))
+    (events ++ plain (gen_load_of g (tag_size_of w.reach) pa) old ∷ [])
+part_closed g p c n pa space kept now w m old events part =
+    let a : Access = table_access space part.1.gpi (walked m w.reach w.tag old) in
+    part_decided g p c n pa space kept (last_of g.setup.ring (now ++ w ∷ [])) a a.allowed (events ++ plain (gen_load_of g (tag_size_of w.reach) pa) old ∷ []) refl
+    (walk_decides g p c n pa space kept now w m old events part)
+
+-- the line is resident
+pub part_touched : (g : GeometryData) (p c n pa : ℕ) (space : Space) (kept now : List Walk) (a : Access) (touch : Act) (old : ℕ) (events : List CallEvent)
+    → IsPartOf g p c n pa space kept now (stage.Touching a) events → touch_of g pa space ≡ Some touch → IsPartOf g p c n pa space kept now (stage.Leaving a) (events ++ plain touch old ∷ [])
+part_touched g p c n pa space kept now a touch old events part there = record {
+  deciding = events;
+  touched = old;
+  decided = part.0;
+  parts = ap (λ (es : List CallEvent). events ++ es) (sym (one_touch (touch_of g pa space) touch a.allowed old there part.1));
+}
+
 -- the last act makes them whole
 pub part_left : (g : GeometryData) (p c n pa : ℕ) (space : Space) (kept now : List Walk) (a : Access) (old : ℕ) (events : List CallEvent)
     → IsPartOf g p c n pa space kept now (stage.Leaving a) events → Looks g p c n pa space kept (answer.Seen a) now (events ++ plain (off_act g p) old ∷ [])
 part_left g p c n pa space kept now a old events part =
-    record { access = a; deciding = events; cleared = old; decided = part; parts = refl; is = refl }
+    record {
+      access = a;
+      deciding = part.deciding;
+      touched = part.touched;
+      cleared = old;
+      decided = part.decided;
+      parts = ap (λ (es : List CallEvent). es ++ plain (off_act g p) old ∷ []) part.parts;
+      is = refl;
+    }
 
 -- ---- a next act
 
@@ -259,11 +308,11 @@ answered g p c tasks answers kept r pa space seen calls last old here unblocked 
 -- the generation of the found walk is loaded
 tried : (g : GeometryData) (p c n pa : ℕ) (space : Space) (kept now : List Walk) (w : Walk) (gpi : Gpi) (old : ℕ) (b : Bool) (last : List CallEvent)
     → (old == w.tag) ≡ b → IsPartOf g p c n pa space kept now (stage.Trying w) last → walk_gpi g pa w ≡ Some gpi
-    → IsPartOf g p c n pa space kept now (if b then stage.Leaving (table_access space gpi (via.Hit w.reach w.tag)) else stage.Loading size.Two no_generations (Some (old_walk w old)))
+    → IsPartOf g p c n pa space kept now (if b then decided_stage (table_access space gpi (via.Hit w.reach w.tag)) else stage.Loading size.Two no_generations (Some (old_walk w old)))
     (last ++ record { act = gen_load_of g (tag_size_of w.reach) pa; old = old; made = if b then decided_entries g c n pa space (Some gpi) else [] } ∷ [])
 tried g p c n pa space kept now w gpi old true last same part gives =
     let tag : old ≡ w.tag = eqb-true old w.tag same in
-    subst (λ (m : ℕ). IsPartOf g p c n pa space kept now (stage.Leaving (table_access space gpi (via.Hit w.reach w.tag)))
+    subst (λ (m : ℕ). IsPartOf g p c n pa space kept now (decided_stage (table_access space gpi (via.Hit w.reach w.tag)))
     (last ++ record { act = gen_load_of g (tag_size_of w.reach) pa; old = m; made = decided_entries g c n pa space (Some gpi) } ∷ [])) (sym tag)
     (part_hit g p c n pa space kept now w gpi last part gives)
 tried g p c n pa space kept now w gpi old false last same part gives =
@@ -282,7 +331,7 @@ found g p c tasks answers kept r pa space k m place calls last old w gpi here ar
 -- any act of an access with acts, however far it has come
 walks : (g : GeometryData) (p c : ℕ) (tasks : List Task) (answers : List Answer) (kept : List Walk) (r : RingData) (s : Stage) (pa : ℕ) (space : Space) (calls last : List CallEvent) (next : Act) (old : ℕ)
     → slice_get tasks (length answers) ≡ Some (task.Look pa space) → block_gpi_of g pa ≡ None → pa < space_bytes g.setup → r.ring ≡ g.setup.ring → IsAccessAt g pa s → IsReadable s old
-    → AreCallEvents g p c 0 tasks [] answers kept calls → IsPartOf g p c (length answers) pa space kept r.walks s last → act_at g p pa s ≡ Some next
+    → AreCallEvents g p c 0 tasks [] answers kept calls → IsPartOf g p c (length answers) pa space kept r.walks s last → act_at g p pa space s ≡ Some next
     → HasWalked c (took_at (cpu g p tasks answers r s) (Some (task.Look pa space)) old)
     ((calls ++ last) ++ record { act = next; old = old; made = made_at g c (length answers) s (Some (task.Look pa space)) old } ∷ [])
 walks g p c tasks answers kept r stage.Starting pa space calls last next old here unblocked inside keeps at readable are part e =
@@ -305,6 +354,8 @@ walks g p c tasks answers kept r (stage.Closing w m) pa space calls last next ol
     let closed = part_closed g p c (length answers) pa space kept r.walks w m old last part in
     let later : RingData = record { walks = last_of g.setup.ring (r.walks ++ w ∷ []); ring = g.setup.ring } in
     rw (← same, part.1.gives, keeps) (goes_on g p c tasks answers kept later _ pa space calls last _ here are closed)
+walks g p c tasks answers kept r (stage.Touching a) pa space calls last next old here unblocked inside keeps at readable are part e =
+    goes_on g p c tasks answers kept r _ pa space calls last _ here are (part_touched g p c (length answers) pa space kept r.walks a next old last part e)
 walks g p c tasks answers kept r (stage.Leaving a) pa space calls last next old here unblocked inside keeps at readable are part e =
     let same : off_act g p ≡ next = cc in
     rw (← same) (answered g p c tasks answers kept r pa space a calls last old here unblocked are part)

@@ -20,13 +20,14 @@ use Rattle.gpt_descriptors.proofs.FieldEntryLemmas.{descriptor_gpi}
 use Rattle.walk_cache.specs.declared.walk.Walk.{Walk}
 use Rattle.walk_cache.specs.Rings.{RingData, IsRing, first_around, covers_from, newest_of, last_of}
 use Rattle.walk_cache.proofs.RingLemmas.{if_found, length-last}
+use Rattle.history.specs.declared.call.Access.{Access}
 use Rattle.history.specs.declared.call.OldWalk.{OldWalk}
 use Rattle.history.specs.declared.call.Via.{Via}
 use Rattle.history.specs.declared.call.Via.TheVariants as via
 use Rattle.processor.specs.InnerProgress.{Stage}
 use Rattle.processor.specs.InnerProgress as stage
-use Rattle.processor.specs.Accesses.{walk_with, walk_of, walk_gpi}
-use Rattle.processor.specs.InnerProgress.{no_generations, old_walk, after_search, after_decision, after_try, after_load, after_word, after_at, ring_after}
+use Rattle.processor.specs.Accesses.{walk_with, walk_of, walk_gpi, table_access}
+use Rattle.processor.specs.InnerProgress.{no_generations, old_walk, after_search, decided_stage, after_decision, after_try, after_load, after_word, after_at, ring_after}
 use Rattle.processor.specs.InnerCpus.{IsWalk, IsWalkAt, IsAccessAt}
 
 -- ---- a walk that is made
@@ -126,13 +127,16 @@ search_at : (g : GeometryData) (kept : List Walk) (pa : ℕ) (o : Option Walk) �
 search_at g kept pa None walks newest = tt
 search_at g kept pa (Some w) walks newest = found_is g kept pa w walks newest
 
-decision_at : (g : GeometryData) (pa : ℕ) (s : Stage) (o : Option Gpi) (space : Space) (v : Via) → IsAccessAt g pa s → IsAccessAt g pa (after_decision s o space v)
-decision_at g pa s None space v at = at
-decision_at g pa s (Some gpi) space v at = tt
-
 choice_at : (g : GeometryData) (pa : ℕ) (b : Bool) (s t : Stage) → IsAccessAt g pa s → IsAccessAt g pa t → IsAccessAt g pa (if b then s else t)
 choice_at g pa true s t at_s at_t = at_s
 choice_at g pa false s t at_s at_t = at_t
+
+decided_at : (g : GeometryData) (pa : ℕ) (a : Access) → IsAccessAt g pa (decided_stage a)
+decided_at g pa a = choice_at g pa a.allowed (stage.Touching a) (stage.Leaving a) tt tt
+
+decision_at : (g : GeometryData) (pa : ℕ) (s : Stage) (o : Option Gpi) (space : Space) (v : Via) → IsAccessAt g pa s → IsAccessAt g pa (after_decision s o space v)
+decision_at g pa s None space v at = at
+decision_at g pa s (Some gpi) space v at = decided_at g pa (table_access space gpi v)
 
 load_at : (g : GeometryData) (pa : ℕ) (z : Size) (k : Generations) (m : Option OldWalk) → IsAccessAt g pa (after_load z k m)
 load_at g pa size.Two k m = tt
@@ -151,4 +155,5 @@ after_is g kept pa space (stage.Trying w) old inside walks at =
 after_is g kept pa space (stage.Loading z k m) old inside walks at = load_at g pa z (with_generation z old k) m
 after_is g kept pa space (stage.Walking k m) old inside walks at = word_at g pa k old m (walk_of pa k old) inside refl
 after_is g kept pa space (stage.Closing w m) old inside walks at = decision_at g pa (stage.Closing w m) (walk_gpi g pa w) space _ at
+after_is g kept pa space (stage.Touching a) old inside walks at = tt
 after_is g kept pa space (stage.Leaving a) old inside walks at = tt

@@ -64,7 +64,7 @@ has_ended q = not (is_some (task_of q))
 
 -- the next act at a task
 abbrev pub next_at : CpuData → Option Task → Option Act
-next_at q (Some (task.Look pa space)) = act_at q.geometry q.number pa q.stage
+next_at q (Some (task.Look pa space)) = act_at q.geometry q.number pa space q.stage
 next_at q t = None
 
 -- the next act of a processor

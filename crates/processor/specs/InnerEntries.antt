@@ -36,6 +36,8 @@ made_at g c n s t old = []
 abbrev pub entries_at : GeometryData → ℕ → ℕ → Stage → Option Task → List Entry
 entries_at g c n (stage.Closing w m) (Some (task.Look pa space)) =
     decided_entries g c n pa space (walk_gpi g pa w)
+entries_at g c n (stage.Touching a) (Some (task.Look pa space)) =
+    looked_entry g c n pa space a.gpi ∷ []
 entries_at g c n (stage.Leaving a) (Some (task.Look pa space)) =
     looked_entry g c n pa space a.gpi ∷ []
 entries_at g c n s t = []

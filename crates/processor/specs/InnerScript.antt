@@ -1,6 +1,6 @@
 -- The events of a processor by how far it has come: the machinery that shows that it follows its
 -- script.
-use Rattle.std.specs.Prelude.{◌≡◌, ℕ, List, [], ◌∷◌, ◌++◌, length, Option, Some}
+use Rattle.std.specs.Prelude.{◌≡◌, ℕ, true, List, [], ◌∷◌, ◌++◌, length, Option, Some}
 use Rattle.gpi_values.specs.declared.gpi.Space.{Space}
 use Rattle.gpt_descriptors.specs.declared.size.Size.{Size}
 use Rattle.gpt_descriptors.specs.declared.size.Size.TheVariants as size
@@ -8,6 +8,7 @@ use Rattle.gpt_descriptors.specs.declared.size.Generations.{Generations}
 use Rattle.gpt_descriptors.specs.Places.{GeometryData, l1_place_of}
 use Rattle.invalidate.specs.Duty.{on_act}
 use Rattle.invalidate.specs.Generations.{gen_load_of}
+use Rattle.alias_clean.specs.Lines.{touch_of}
 use Rattle.history.specs.declared.call.Task.{Task}
 use Rattle.history.specs.declared.call.Task.TheVariants as task
 use Rattle.history.specs.Events.{CallEvent, plain}
@@ -15,10 +16,11 @@ use Rattle.processor.specs.InnerProgress.{Stage}
 use Rattle.processor.specs.InnerProgress as stage
 use Rattle.walk_cache.specs.declared.walk.Walk.{Walk}
 use Rattle.walk_cache.specs.Rings.{newest_of}
+use Rattle.history.specs.declared.call.Access.{Access}
 use Rattle.history.specs.declared.call.OldWalk.{OldWalk}
 use Rattle.gpi_values.specs.declared.gpi.Gpi.{Gpi}
 use Rattle.processor.specs.Accesses.{walk_of, walk_gpi}
-use Rattle.processor.specs.Script.{IsMissed, tries, loads, deciding_load, Decides, AreCallEvents}
+use Rattle.processor.specs.Script.{IsMissed, tries, loads, deciding_load, Decides, touches, AreCallEvents}
 use Rattle.processor.specs.InnerCpus.{CpuData, task_of}
 
 -- the loads of generations before that of this size
@@ -57,6 +59,14 @@ pub record HasFound (g : GeometryData) (p c n pa : ℕ) (space : Space) (kept : 
   pub parts : events ≡ plain (on_act g p) set ∷ tries g pa missed ++ loads g pa generations
       ++ deciding_load g c n pa space place word gpi ∷ []
 
+-- it is decided, and has made its line resident where it is allowed
+pub record HasTouched (g : GeometryData) (p c n pa : ℕ) (space : Space) (kept now : List Walk)
+    (a : Access) (events : List CallEvent) : Type 0 where
+  pub deciding : List CallEvent
+  pub touched : ℕ
+  pub decided : Decides g p c n pa space kept a now deciding
+  pub parts : events ≡ deciding ++ touches (touch_of g pa space) a.allowed touched
+
 -- the events of an access under way that has come so far, with the walks that were kept when it
 -- began, and those that are kept now
 abbrev pub IsPartOf : GeometryData → ℕ → ℕ → ℕ → ℕ → Space → List Walk → List Walk → Stage
@@ -70,8 +80,10 @@ IsPartOf g p c n pa space kept now (stage.Walking k m) events =
     (now ≡ kept) × HasLoaded g p pa kept m (loads g pa k) events
 IsPartOf g p c n pa space kept now (stage.Closing w m) events =
     (now ≡ kept) × HasFound g p c n pa space kept w m events
+IsPartOf g p c n pa space kept now (stage.Touching a) events =
+    Decides g p c n pa space kept a now events × (a.allowed ≡ true)
 IsPartOf g p c n pa space kept now (stage.Leaving a) events =
-    Decides g p c n pa space kept a now events
+    HasTouched g p c n pa space kept now a events
 
 -- the events of the call under way
 abbrev pub IsPrefix : GeometryData → ℕ → ℕ → ℕ → List Walk → List Walk → Stage → Option Task

@@ -1,18 +1,20 @@
 -- The script of an access: its acts in their order, each with the word that it answered and the
 -- entries that it makes in the history; and what it leaves of the processor's kept walks. A processor
 -- is shown to follow it. That the generations are loaded before the L1 word, and that of the word's
--- reach again after it, is this project's own order. The lines that an access makes resident are not
--- in it yet.
-use Rattle.std.specs.Prelude.{◌≡◌, ◌≢◌, ◌⊎◌, ℕ, ◌+◌, List, [], ◌∷◌, ◌++◌, length, slice_get, Option, Some, None, MatchOption}
+-- reach again after it, is this project's own order; so is that an allowed access makes its line
+-- resident before it ends.
+use Rattle.std.specs.Prelude.{◌≡◌, ◌≢◌, ◌⊎◌, ℕ, ◌+◌, Bool, true, List, [], ◌∷◌, ◌++◌, length, slice_get, Option, Some, None, MatchOption}
 use Rattle.gpi_values.specs.declared.gpi.Gpi.{Gpi}
 use Rattle.gpi_values.specs.declared.gpi.Space.{Space}
 use Rattle.gpt_descriptors.specs.declared.size.Size.TheVariants as size
 use Rattle.gpt_descriptors.specs.declared.size.Generations.{Generations}
 use Rattle.gpt_descriptors.specs.Sizes.{tag_size_of}
 use Rattle.gpt_descriptors.specs.Places.{GeometryData, gen_place_of, l1_place_of, block_gpi_of}
+use Rattle.shared_words.specs.declared.act.Act.{Act}
 use Rattle.shared_words.specs.declared.act.Act.TheVariants as act
 use Rattle.invalidate.specs.Duty.{on_act, off_act}
 use Rattle.invalidate.specs.Generations.{gen_load_of}
+use Rattle.alias_clean.specs.Lines.{touch_of}
 use Rattle.walk_cache.specs.declared.walk.Walk.{Walk}
 use Rattle.walk_cache.specs.Rings.{newest_of, last_of}
 use Rattle.history.specs.declared.call.Task.{Task}
@@ -96,14 +98,22 @@ Decides g p c n pa space kept given later events =
     (Hits g p c n pa space kept given events × (later ≡ kept))
     ⊎ Walks g p c n pa space kept given later events
 
--- Call n of caller c, processor p, is an access at an L1 table. Last, its duty word is cleared.
+-- the touch of an access, where it is allowed
+abbrev pub touches : Option Act → Bool → ℕ → List CallEvent
+touches (Some touch) true old = plain touch old ∷ []
+touches o allowed old = []
+
+-- Call n of caller c, processor p, is an access at an L1 table. Where it is allowed, it makes the
+-- line of its granule in its space resident. Last, its duty word is cleared.
 pub record Looks (g : GeometryData) (p c n pa : ℕ) (space : Space) (kept : List Walk)
     (given : Answer) (later : List Walk) (events : List CallEvent) : Type 0 where
   pub access : Access
   pub deciding : List CallEvent
+  pub touched : ℕ
   pub cleared : ℕ
   pub decided : Decides g p c n pa space kept access later deciding
-  pub parts : events ≡ deciding ++ plain (off_act g p) cleared ∷ []
+  pub parts : events ≡ deciding ++ touches (touch_of g pa space) access.allowed touched
+      ++ plain (off_act g p) cleared ∷ []
   pub is : given ≡ answer.Seen access
 
 -- ---- the calls of a processor

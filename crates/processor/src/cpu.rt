@@ -138,7 +138,7 @@ impl Cpu {
         ensures there { is_some result ≡ not (has_ended self.now) }
     {
         match self.task()? {
-            Task::Look(pa, _) => self.progress.next(&self.geometry, self.number, pa),
+            Task::Look(pa, space) => { self.progress.next(&self.geometry, self.number, pa, space) }
             _ => None,
         }
     }
@@ -240,6 +240,7 @@ impl Cpu {
     {
         match self.next() {
             Some(Act::Load(place)) => place < words.len() && self.may_take(words[place]),
+            Some(Act::Or(place, _)) => place < words.len() && self.may_take(words[place]),
             Some(Act::Store(place, _)) => place < words.len() && self.may_take(0),
             Some(_) => false,
             None => self.may_take(0),

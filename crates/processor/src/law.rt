@@ -1,4 +1,5 @@
-ghost use Rattle.std.specs.Prelude.{◌≡◌, ◌⊎◌, ◌≤◌, ◌<◌, ℕ, List, [], ◌∷◌, ◌++◌, Some, true, length};
+ghost use Rattle.std.specs.Prelude.{◌≡◌, ◌≢◌, ◌⊎◌, ◌≤◌, ◌<◌, ℕ, List, [], ◌∷◌, ◌++◌, Some, true, length};
+ghost use Rattle.gpi_values.specs.declared.gpi.Space.{Space};
 ghost use Rattle.shared_words.specs.declared.act.Act.{Act};
 ghost use Rattle.shared_words.specs.Acts.{place_in, written};
 ghost use Rattle.history.specs.declared.call.Task.{Task};
@@ -9,6 +10,7 @@ ghost use Rattle.walk_cache.specs.declared.walk.Walk.{Walk};
 ghost use Rattle.gpt_descriptors.specs.Places.{GeometryData, IsGeometry, WordName, IsWordName};
 ghost use Rattle.gpt_descriptors.specs.Places.{Duty, place_of, word_count};
 ghost use Rattle.std.specs.List.{All};
+ghost use Rattle.alias_clean.specs.Lines.{touch_of};
 ghost use Rattle.processor.specs.Accesses.{IsAccess};
 ghost use Rattle.processor.specs.Script.{IsCall, IsUnderWay, Follows};
 ghost use Rattle.processor.specs.InnerCpus.{CpuData, IsCpu, IsReadable, fresh, task_of, has_ended};
@@ -47,13 +49,13 @@ pub fn processors_make_their_entries()
         ++ made_at q.geometry c (length q.answers) q.stage (task_of q) old }
 {}
 
-/// An access makes at most eight acts, and less than eight before it is answered.
-pub fn accesses_make_eight_acts()
+/// An access makes at most nine acts, and less than nine before it is answered.
+pub fn accesses_make_nine_acts()
     ensures answered { (g : GeometryData) (p c n : ℕ) (t : Task) (kept : List Walk) (given : Answer)
         (later : List Walk) (events : List CallEvent)
-        → IsCall g p c n t kept given later events → length events ≤ 8 }
+        → IsCall g p c n t kept given later events → length events ≤ 9 }
     ensures under_way { (g : GeometryData) (p c n : ℕ) (t : Task) (kept : List Walk)
-        (events : List CallEvent) → IsUnderWay g p c n t kept events → length events < 8 }
+        (events : List CallEvent) → IsUnderWay g p c n t kept events → length events < 9 }
 {}
 
 /// The answers of a processor are those of a ring: each access was decided as the newest kept walk
@@ -68,8 +70,9 @@ pub fn processors_answer_by_their_rings()
 {}
 
 /// What is known of a processor by how it was made alone, whatever its acts are answered: an act
-/// keeps its geometry, its number and its tasks; its next act is made on one of the shared words,
-/// and is a load or on its own duty word, which is 1 from the first act of an access to the last.
+/// keeps its geometry, its number and its tasks; its next act is made on one of the shared words, and
+/// is a load, or on its own duty word, which is 1 from the first act of an access to the last, or
+/// makes the line of its access resident.
 pub fn processors_keep_to_their_words()
     ensures start { (g : GeometryData) (p : ℕ) (tasks : List Task) → IsGeometry g → p < g.cpus
         → All (IsAccess g) tasks → IsCpu (fresh g p tasks) }
@@ -82,7 +85,13 @@ pub fn processors_keep_to_their_words()
         → place_in next < word_count q.geometry }
     ensures writes { (q : CpuData) (next : Act) → IsCpu q → next_of q ≡ Some next
         → (next ≡ Act.Load (place_in next))
-        ⊎ (place_in next ≡ place_of q.geometry (Duty q.number)) }
-    ensures duty { (q : CpuData) (next : Act) (old : ℕ) → next_of q ≡ Some next
+        ⊎ ((place_in next ≡ place_of q.geometry (Duty q.number))
+        ⊎ ((pa : ℕ) × (space : Space) × (task_of q ≡ Some (Task.Look pa space))
+        × (touch_of q.geometry pa space ≡ Some next))) }
+    ensures duty { (q : CpuData) (next : Act) (old : ℕ) → IsCpu q → next_of q ≡ Some next
+        → place_in next ≡ place_of q.geometry (Duty q.number)
         → written next (duty_at q.stage) ≡ duty_at (took_of q old).stage }
+    ensures other { (q : CpuData) (next : Act) (old : ℕ) → next_of q ≡ Some next
+        → place_in next ≢ place_of q.geometry (Duty q.number)
+        → duty_at (took_of q old).stage ≡ duty_at q.stage }
 {}

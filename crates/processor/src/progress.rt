@@ -8,11 +8,12 @@ ghost use Rattle.history.specs.Stamps.{walked};
 ghost use Rattle.processor.specs.Accesses.{walk_of, walk_gpi, table_access};
 ghost use Rattle.processor.specs.InnerProgress.{stage_of, no_generations, act_at, next_in, old_in};
 ghost use Rattle.processor.specs.InnerProgress.{after_search, after_try, after_load, after_word};
-ghost use Rattle.processor.specs.InnerProgress.{after_decision, after_at, ring_after, answer_at};
-ghost use Rattle.processor.specs.InnerProgress.{is_last};
+ghost use Rattle.processor.specs.InnerProgress.{decided_stage, after_decision, after_at, ring_after};
+ghost use Rattle.processor.specs.InnerProgress.{answer_at, is_last};
 ghost use Rattle.processor.specs.InnerProgress as stage;
 ghost use Rattle.processor.specs.InnerCpus.{IsReadable, IsAccessAt};
 
+use alias_clean::touch;
 use gpi_values::{Gpi, Space, permits};
 #[cfg(test)]
 use gpt_descriptors::decode_l1;
@@ -35,6 +36,8 @@ pub enum Phase {
     Walking,
     /// The L1 word has decided. It loads the generation of the word's reach again.
     Closing,
+    /// The access is allowed. It makes the line of its granule in its space resident.
+    Touching,
     /// It clears the duty word, and the access is answered.
     Leaving,
 }
@@ -109,11 +112,11 @@ impl Progress {
         }
     }
 
-    /// The next act of a processor at an access to a byte address.
-    pub fn next(&self, geometry: &Geometry, cpu: u32, pa: u64) -> Option<Act>
+    /// The next act of a processor at an access to a byte address in a space.
+    pub fn next(&self, geometry: &Geometry, cpu: u32, pa: u64, space: Space) -> Option<Act>
         requires cpu { cpu < geometry.now.cpus }
         requires inside { pa < space_bytes geometry.now.setup }
-        ensures { result ≡ act_at geometry.now cpu pa (stage_of self.now) }
+        ensures { result ≡ act_at geometry.now cpu pa space (stage_of self.now) }
     {
         match self.phase {
             Phase::Starting => Some(on(geometry, cpu)),
@@ -124,6 +127,7 @@ impl Progress {
                 None => None,
             },
             Phase::Closing => Some(gen_load(geometry, tag_size(self.walk.reach), pa)),
+            Phase::Touching => touch(geometry, pa, space),
             Phase::Leaving => Some(off(geometry, cpu)),
         }
     }
@@ -152,15 +156,20 @@ impl Progress {
 
     /// The access is decided.
     fn decide(&mut self, space: Space, gpi: Gpi, via: Via)
-        ensures { stage_of self.new ≡ stage.Leaving (table_access space gpi via) }
+        ensures { stage_of self.new ≡ decided_stage (table_access space gpi via) }
     {
+        let allowed = permits(gpi, space);
         self.access = Access {
-            allowed: permits(gpi, space),
+            allowed,
             gpi,
             level: 1,
             via,
         };
-        self.phase = Phase::Leaving;
+        self.phase = if allowed {
+            Phase::Touching
+        } else {
+            Phase::Leaving
+        };
     }
 
     /// The generation of the found walk was loaded.
@@ -268,6 +277,7 @@ impl Progress {
             Phase::Loading(size) => self.loaded(size, old),
             Phase::Walking => self.walked(pa, old),
             Phase::Closing => self.closed(geometry, cache, pa, space, old),
+            Phase::Touching => self.phase = Phase::Leaving,
             Phase::Leaving => {}
         }
     }
@@ -284,16 +294,16 @@ impl Progress {
     ) -> bool
         requires cpu { cpu < geometry.now.cpus }
         requires inside { pa < space_bytes geometry.now.setup }
-        requires next { IsSome (next_in geometry.now cpu pa self.old) }
-        requires place { MayBeMade (next_in geometry.now cpu pa self.old) (W.words words.old) }
+        requires next { IsSome (next_in geometry.now cpu pa space self.old) }
+        requires place { MayBeMade (next_in geometry.now cpu pa space self.old) (W.words words.old) }
         requires at { IsAccessAt geometry.now pa (stage_of self.old) }
         requires readable { IsReadable (stage_of self.old)
-            (old_in geometry.now cpu pa self.old (W.words words.old)) }
+            (old_in geometry.now cpu pa space self.old (W.words words.old)) }
         ensures words { W.words words.new
-            ≡ words_after (next_in geometry.now cpu pa self.old) (W.words words.old) }
+            ≡ words_after (next_in geometry.now cpu pa space self.old) (W.words words.old) }
         ensures after { stage_of self.new
             ≡ after_at geometry.now cache.old.walks pa space (stage_of self.old)
-            (old_in geometry.now cpu pa self.old (W.words words.old)) }
+            (old_in geometry.now cpu pa space self.old (W.words words.old)) }
         ensures ring { cache.new ≡ ring_after (stage_of self.old) cache.old }
         ensures last { result ≡ is_last (stage_of self.old) }
     {
@@ -319,6 +329,12 @@ impl Progress {
             Phase::Closing => {
                 let value = words.apply(gen_load(geometry, tag_size(self.walk.reach), pa));
                 self.closed(geometry, cache, pa, space, value);
+            }
+            Phase::Touching => {
+                if let Some(act) = touch(geometry, pa, space) {
+                    words.apply(act);
+                    self.phase = Phase::Leaving;
+                }
             }
             Phase::Leaving => {
                 words.apply(off(geometry, cpu));

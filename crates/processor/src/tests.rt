@@ -25,6 +25,11 @@ const LOAD_FIVE_TWELVE: Act = Act::Load(2179);
 
 const LOAD_WORD: Act = Act::Load(10961);
 
+/// The line word, 16384 after the L1 word, has bit 4 * 3 + 1 for Non-secure and 4 * 3 + 3 for Realm.
+const TOUCH_NON_SECURE: Act = Act::Or(27345, 0x2000);
+
+const TOUCH_REALM: Act = Act::Or(27345, 0x8000);
+
 const CLEAR: Act = Act::Store(2187, 0);
 
 /// An L1 word, the act that loads the generation of its reach again, and what an access is answered
@@ -147,16 +152,54 @@ fn accesses_walk_act_by_act(rt: HostRuntime) -> Result<(), Fail> {
             (LOAD_FIVE_TWELVE, 7),
             (LOAD_WORD, word),
             (again, 9),
-            (CLEAR, 0),
         ];
         for (want, old) in acts {
-            assert_eq!(rt; cpu.left(), 1);
             assert_eq!(rt; act(&mut cpu, old), Some(want), "of {word:#x}");
+            assert_eq!(rt; cpu.left(), 1);
         }
+        if allowed {
+            assert_eq!(rt; act(&mut cpu, 0x10), Some(TOUCH_REALM), "of {word:#x}");
+            assert_eq!(rt; cpu.left(), 1);
+        }
+        assert_eq!(rt; act(&mut cpu, 0), Some(CLEAR), "of {word:#x}");
         assert_eq!(rt; cpu.next(), None);
         assert_eq!(rt; cpu.left(), 0);
         let want = seen(allowed, gpi, 1, Via::Cold { reach, lo, hi: 9 });
         assert_eq!(rt; cpu.answers(), [want].as_slice(), "of {word:#x}");
+    }
+    Ok(())
+}
+
+/// Accesses with the act that makes the line resident: a word of lines for each 64 KB, from 18572 on.
+const TOUCHES: [(u64, Space, Act); 6] = [
+    (INSIDE, Space::Secure, Act::Or(27345, 0x1000)),
+    (INSIDE, Space::NonSecure, TOUCH_NON_SECURE),
+    (INSIDE, Space::Root, Act::Or(27345, 0x4000)),
+    (INSIDE, Space::Realm, TOUCH_REALM),
+    (0, Space::Secure, Act::Or(18572, 1)),
+    (0x3fff_ffff, Space::Root, Act::Or(34955, 1 << 62)),
+];
+
+#[test]
+fn allowed_accesses_touch_the_line_of_their_granule_and_space(rt: HostRuntime) -> Result<(), Fail> {
+    for (pa, space, touch) in TOUCHES {
+        let tasks = vec![in rt.alloc(); Task::Look(pa, space), Task::Look(pa, space)]?;
+        let mut cpu = cpu(rt.alloc(), tasks)?;
+        for old in [0, 0, 0, 0, u64::MAX, 0] {
+            assert!(rt; act(&mut cpu, old).is_some());
+        }
+        assert_eq!(rt; act(&mut cpu, 0), Some(touch), "at {pa:#x} in {space:?}");
+        assert_eq!(rt; act(&mut cpu, 0), Some(CLEAR));
+        // A hit touches it again.
+        assert_eq!(rt; act(&mut cpu, 0), Some(SET));
+        assert!(rt; act(&mut cpu, 0).is_some());
+        assert_eq!(rt;
+            act(&mut cpu, u64::MAX),
+            Some(touch),
+            "at {pa:#x} in {space:?}"
+        );
+        assert_eq!(rt; act(&mut cpu, 0), Some(CLEAR));
+        assert_eq!(rt; cpu.next(), None);
     }
     Ok(())
 }
@@ -172,7 +215,7 @@ fn accesses_at_blocks_have_no_acts(rt: HostRuntime) -> Result<(), Fail> {
     ]?;
     let mut cpu = cpu(rt.alloc(), tasks)?;
     assert_eq!(rt; cpu.left(), 3);
-    for old in [0, 1, 1, 1, 0x191, 2, 0] {
+    for old in [0, 1, 1, 1, 0x191, 2, 0, 0] {
         assert_eq!(rt; cpu.left(), 3);
         assert!(rt; act(&mut cpu, old).is_some());
     }
@@ -233,7 +276,8 @@ fn turns_load_what_stands_there_then(rt: HostRuntime) -> Result<(), Fail> {
         Task::Look(INSIDE, Space::Realm),
     ]?;
     let mut cpu = cpu(rt.alloc(), tasks)?;
-    for made in 0..7u64 {
+    set(&mut words, 27345, 0x100);
+    for made in 0..8u64 {
         assert_eq!(rt;
             words.words().get(2187),
             Some(&(made.min(1))),
@@ -246,11 +290,14 @@ fn turns_load_what_stands_there_then(rt: HostRuntime) -> Result<(), Fail> {
         assert!(rt; turn(&mut cpu, &mut words), "turn {made}");
     }
     assert_eq!(rt; words.words().get(2187), Some(&0));
+    assert_eq!(rt; words.words().get(27345), Some(&0x2100));
     assert_eq!(rt; cpu.left(), 1);
-    for made in 0..8u64 {
+    for made in 0..9u64 {
         assert!(rt; turn(&mut cpu, &mut words), "turn {made}");
     }
     assert!(rt; !turn(&mut cpu, &mut words));
+    assert_eq!(rt; words.words().get(2187), Some(&0));
+    assert_eq!(rt; words.words().get(27345), Some(&0xa100));
     let cold = Via::Cold {
         reach: Reach::FiveTwelve,
         lo: 0,
@@ -291,12 +338,14 @@ fn kept_walks_are_tried_before_the_tables(rt: HostRuntime) -> Result<(), Fail> {
         (LOAD_FIVE_TWELVE, 7),
         (LOAD_WORD, 0x9999_9999_9999_b888),
         (LOAD_TWO, 8),
+        (TOUCH_REALM, 0),
         (CLEAR, 0),
         // Hit.
         (SET, 0),
         (LOAD_TWO, 5),
+        (TOUCH_REALM, 0x8000),
         (CLEAR, 0),
-        // Missed: the word is a block of 32 MB now, kept with the tag 6.
+        // Missed and denied: the word is a block of 32 MB now, kept with the tag 6.
         (SET, 0),
         (LOAD_TWO, 8),
         (LOAD_TWO, 8),
@@ -312,6 +361,7 @@ fn kept_walks_are_tried_before_the_tables(rt: HostRuntime) -> Result<(), Fail> {
         // Hit, for another granule of the block.
         (SET, 0),
         (LOAD_THIRTY_TWO, 6),
+        (Act::Or(27660, 2), 0),
         (CLEAR, 0),
     ];
     for (want, old) in acts {
@@ -344,7 +394,7 @@ fn kept_walks_are_tried_before_the_tables(rt: HostRuntime) -> Result<(), Fail> {
 
 #[test]
 fn a_full_ring_drops_its_oldest_walk(rt: HostRuntime) -> Result<(), Fail> {
-    // The walks that are kept, and the acts of the three accesses together.
+    // The walks that are kept, and the acts of the three accesses together, all denied.
     for (ring, acts) in [(1, 21u64), (2, 17)] {
         let tasks = vec![in rt.alloc();
             Task::Look(INSIDE, Space::Realm),
@@ -470,14 +520,16 @@ fn plain_access(
 /// is changed just before.
 fn disturbed_turn(cpu: &mut Cpu, words: &mut PlainWords, number: u64) -> Option<u64> {
     let place = match cpu.next()? {
-        Act::Load(place) | Act::Store(place, _) => place,
+        Act::Load(place) | Act::Store(place, _) | Act::Or(place, _) => place,
         _ => return None,
     };
     let value = *words.words().get(place)?;
     let changed = match number >> 61 {
-        // The places before the L1 words.
+        // The generations, and the L1 words.
         0 | 1 if place < 2186 => value.wrapping_add(1),
-        0 | 1 if 2188 <= place => *WORDS.get((number >> 40) as usize % WORDS.len())?,
+        0 | 1 if 2188 <= place && place < 18572 => *WORDS.get(
+            (number >> 40) as usize % WORDS.len(),
+        )?,
         _ => value,
     };
     set(words, place, changed);
@@ -500,6 +552,20 @@ fn next_number(number: u64) -> u64 {
 fn address(number: u64) -> u64 {
     let bits = number >> 33;
     (bits & 1) << 29 | (bits >> 1 & 1) << 25 | (bits >> 2 & 1) << 21 | (bits >> 3 & 7) << 15
+}
+
+/// The place of the line word of an address.
+fn line_place(pa: u64) -> usize {
+    18_572 + (pa >> 16) as usize
+}
+
+/// What an access in Realm leaves of a line word that was 0.
+fn line_after(pa: u64, allowed: bool) -> u64 {
+    if allowed {
+        8 << (4 * ((pa >> 12) % 16))
+    } else {
+        0
+    }
 }
 
 /// Gives the processor the turns of one access, and reports what its acts answered.
@@ -538,9 +604,12 @@ fn answers_are_those_of_a_plain_ring(rt: HostRuntime) -> Result<(), Fail> {
         let mut hits = 0_u64;
         for pa in addresses.iter() {
             number = next_number(number);
+            let line = line_place(*pa);
+            set(&mut words, line, 0);
             let olds = access(rt.alloc(), &mut cpu, &mut words, number)?;
             let (gpi, via) = plain_access(&mut walks, ring as usize, *pa, &olds)?;
             let allowed = gpi == Gpi::Realm || gpi == Gpi::Any;
+            assert_eq!(rt; words.words().get(line), Some(&line_after(*pa, allowed)));
             assert_eq!(rt; cpu.answers().last(), Some(&seen(allowed, gpi, 1, via)));
             hits = hits.saturating_add(matches!(via, Via::Hit { .. }) as u64);
         }

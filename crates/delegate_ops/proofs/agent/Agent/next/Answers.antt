@@ -15,4 +15,4 @@ returns-in-Some-clause-there c =
     ap is_some (returns-in-Some-clause-next c) ∙ next_there c.args.self.now (subst IsAgent c.self.view_is c.self.invariant.0)
 
 pub next-requires : goal.next-requires
-next-requires c = (c.self.inside.geometry, is_under_way c.self.inside.geometry _ c.self.inside.transition c.in-Some.transition c.self.invariant.2 c.in-Some.is)
+next-requires c = is_under_way c.self.inside.geometry _ c.self.inside.transition c.in-Some.transition c.self.invariant.2 c.in-Some.is

@@ -12,7 +12,7 @@ returns-else-run-gt0-clause-run c = λ p.
     let none : c.take_run-run.result.count ≡ 0 = omega (arith, c.if-run-gt0.false) in
     inl (
       none,
-      ap (λ (d : SplittingData). at_progress c.args.task p (record { phase = q.phase; kept = q.kept; splitting = d; merging = q.merging }))
+      ap (λ (d : SplittingData). at_progress c.args.task p (record { phase = q.phase; kept = q.kept; splitting = d; barrier = q.barrier; merging = q.merging }))
           (c.take_run-run.ensures.after ∙ ap (λ (n : ℕ). advanced_by n q.splitting) none ∙ split_none q.splitting),
     )
 
@@ -22,6 +22,6 @@ returns-else-run-gt0-2-clause-run c = λ p.
     let none : c.take_run-run-in-Merging.result.count ≡ 0 = omega (arith, c.if-run-gt0-2.false) in
     inl (
       none,
-      ap (λ (d : FuseData). at_progress c.args.task p (record { phase = q.phase; kept = q.kept; splitting = q.splitting; merging = d }))
+      ap (λ (d : FuseData). at_progress c.args.task p (record { phase = q.phase; kept = q.kept; splitting = q.splitting; barrier = q.barrier; merging = d }))
           (c.take_run-run-in-Merging.ensures.after ∙ ap (λ (n : ℕ). stored_by n q.merging) none ∙ stored_none q.merging),
     )

@@ -9,6 +9,6 @@ use Rattle.processor.proofs.cpu.Cpu.next.Goals as goal
 pub returns-in-Look-clause-there : goal.returns-in-Look-clause-there
 returns-in-Look-clause-there c =
     let q = c.args.self.now in
-    let under_way : task_of q ≡ Some (task.Look c.in-Look.pa c.in-Look.field-1) = sym c.task.ensures.task ∙ c.in_ok-pa.was ∙ ap Some c.in-Look.is in
-    let next = c.next.ensures ∙ ap (λ (d : CpuData). act_at d.geometry d.number c.in-Look.pa d.stage) c.self.view_is in
-    ap is_some (next ∙ sym (look_next q c.in-Look.pa c.in-Look.field-1 under_way)) ∙ next_there q (subst IsCpu c.self.view_is c.self.invariant.0)
+    let under_way : task_of q ≡ Some (task.Look c.in-Look.pa c.in-Look.space) = sym c.task.ensures.task ∙ c.in_ok-pa.was ∙ ap Some c.in-Look.is in
+    let next = c.next.ensures ∙ ap (λ (d : CpuData). act_at d.geometry d.number c.in-Look.pa c.in-Look.space d.stage) c.self.view_is in
+    ap is_some (next ∙ sym (look_next q c.in-Look.pa c.in-Look.space under_way)) ∙ next_there q (subst IsCpu c.self.view_is c.self.invariant.0)

@@ -1,0 +1,102 @@
+-- Decided accesses: what their answers, their stages and their lists are.
+use Rattle.std.proofs.Common.{◌≡◌, ℕ, ◌⊎◌, ◌++◌, ◌∷◌, [], List, Bool, true, false, ◌&&◌, eqb, Option, Some, None, refl, sym, ap, ◌∙◌, subst, inl, inr}
+use Rattle.std.proofs.lemmas.Bool.{cases_Bool, and_parts, eqb-true, eq-eqb}
+use Rattle.core_machine.proofs.Names.{Gpi, GeometryData, Entry, Task, Caller, is_due_at, open_by}
+use Rattle.core_machine.proofs.Names.caller
+use Rattle.core_machine.proofs.Names.task
+use Rattle.gpi_values.specs.declared.gpi.Space.{Space}
+use Rattle.gpi_values.specs.Values.{permits_of}
+use Rattle.gpt_descriptors.specs.Sizes.{granule_number}
+use Rattle.gpt_descriptors.specs.declared.size.Reach.{Reach}
+use Rattle.walk_cache.specs.declared.walk.Walk.{Walk}
+use Rattle.history.specs.declared.call.Access.{Access}
+use Rattle.history.specs.declared.call.OldWalk.{OldWalk}
+use Rattle.history.specs.declared.call.Via.{Via}
+use Rattle.history.specs.declared.call.Via.TheVariants as via
+use Rattle.history.specs.Events.{CallEvent}
+use Rattle.history.specs.Legality.{is_still}
+use Rattle.history.specs.Stamps.{walked}
+use Rattle.processor.specs.Accesses.{looked_entry, table_access}
+use Rattle.processor.specs.InnerProgress.{Stage, decided_stage}
+use Rattle.processor.specs.InnerProgress as stage
+use Rattle.processor.specs.InnerCpus.{duty_at}
+use Rattle.processor.specs.InnerScript.{IsPartOf, IsPrefix}
+use Rattle.processor.specs.Script.{Decides}
+use Rattle.core_machine.specs.Lines.{is_allowed_look}
+use Rattle.core_machine.specs.InnerCpuCaller.{Decision, StampedBy, decided_at, decision_of, loads_at, stamps_at, touch_by, touching_at, walk_at}
+use Rattle.core_machine.specs.InnerWalks.{In}
+use Rattle.core_machine.proofs.LineLemmas.{own_permits, permitted_space}
+use Rattle.core_machine.proofs.WalkLemmas.{in_if}
+
+-- ---- answers
+
+-- an access at an L1 table is answered by the GPI that decided it
+pub record IsTableAccess (space : Space) (given : Access) : Type 0 where
+  pub allowed : given.allowed ≡ permits_of given.gpi space
+  pub level : given.level ≡ 1
+  pub walked : is_still given.via ≡ false
+
+walked_way : (m : Option OldWalk) (r : Reach) (lo hi : ℕ) → is_still (walked m r lo hi) ≡ false
+walked_way None r lo hi = refl
+walked_way (Some old) r lo hi = refl
+
+table_one : (space : Space) (gpi : Gpi) (v : Via) (given : Access) → is_still v ≡ false → given ≡ table_access space gpi v → IsTableAccess space given
+table_one space gpi v given walked is = subst (IsTableAccess space) (sym is) (record { allowed = refl; level = refl; walked = walked })
+
+pub decided_access : (g : GeometryData) (p c n pa : ℕ) (space : Space) (kept : List Walk) (given : Access) (later : List Walk) (events : List CallEvent) → Decides g p c n pa space kept given later events → IsTableAccess space given
+decided_access g p c n pa space kept given later events (inl hits) = table_one space hits.0.gpi (via.Hit hits.0.walk.reach hits.0.walk.tag) given refl hits.0.is
+decided_access g p c n pa space kept given later events (inr walks) = table_one space walks.gpi _ given (walked_way walks.missed walks.walk.reach walks.walk.tag walks.hi) walks.is
+
+-- one that is about to touch its line is permitted
+abbrev pub IsPermitted : Space → Stage → Type 0
+IsPermitted space (stage.Touching a) = permits_of a.gpi space ≡ true
+IsPermitted space s = Unit {0}
+
+part_permits : (g : GeometryData) (p c n pa : ℕ) (space : Space) (kept now : List Walk) (s : Stage) (events : List CallEvent) → IsPartOf g p c n pa space kept now s events → IsPermitted space s
+part_permits g p c n pa space kept now (stage.Touching a) events part = sym (decided_access g p c n pa space kept a now events part.0).allowed ∙ part.1
+part_permits g p c n pa space kept now s events part = tt
+
+pub prefix_permits : (g : GeometryData) (p c n pa : ℕ) (space : Space) (kept now : List Walk) (s : Stage) (o : Option Task) (events : List CallEvent) → o ≡ Some (task.Look pa space) → IsPrefix g p c n kept now s o events → IsPermitted space s
+prefix_permits g p c n pa space kept now s o events is prefix = part_permits g p c n pa space kept now s events (subst (λ (u : Option Task). IsPrefix g p c n kept now s u events) is prefix)
+
+-- ---- the stage of a decided access
+
+pub decided_on : (a : Access) → duty_at (decided_stage a) ≡ 1
+decided_on a = elim (cases_Bool a.allowed) [ inl is ↦ rw is refl | inr other ↦ rw other refl ]
+
+pub decided_loads : (g : GeometryData) (words : List ℕ) (pa : ℕ) (a : Access) → loads_at g words pa (decided_stage a)
+decided_loads g words pa a = elim (cases_Bool a.allowed) [ inl is ↦ rw is tt | inr other ↦ rw other tt ]
+
+pub decided_stamps : (g : GeometryData) (map : List Gpi) (c k pa : ℕ) (space : Space) (a : Access) (h : List Entry) → StampedBy g map c k pa space a h → stamps_at g map c k pa space (decided_stage a) h
+decided_stamps g map c k pa space a h stamped = elim (cases_Bool a.allowed) [ inl is ↦ rw is stamped | inr other ↦ rw other stamped ]
+
+pub decided_walks : (a : Access) → walk_at (decided_stage a) ≡ []
+decided_walks a = elim (cases_Bool a.allowed) [ inl is ↦ rw is refl | inr other ↦ rw other refl ]
+
+pub decided_list : (g : GeometryData) (pa : ℕ) (space : Space) (a : Access) → decided_at g pa space (decided_stage a) ≡ decision_of g pa space (Some a.gpi)
+decided_list g pa space a = elim (cases_Bool a.allowed) [ inl is ↦ rw is refl | inr other ↦ rw other refl ]
+
+pub decided_touching : (g : GeometryData) (pa : ℕ) (space : Space) (gpi : Gpi) (v : Via) → touching_at g pa space (decided_stage (table_access space gpi v)) ≡ touch_by g pa space (Some gpi)
+decided_touching g pa space gpi v = elim (cases_Bool (permits_of gpi space)) [ inl is ↦ rw (is, is) refl | inr other ↦ rw (other, other) refl ]
+
+-- ---- the look that it makes
+
+pub one_decision : (g : GeometryData) (pa : ℕ) (space : Space) (gpi : Gpi) (d : Decision) → In d (decision_of g pa space (Some gpi)) → record { granule = granule_number g.setup pa; space = space; gpi = gpi } ≡ d
+one_decision g pa space gpi d (inl is) = is
+one_decision g pa space gpi d (inr none) = absurd none
+
+abbrev pair_at : ℕ → Space → ℕ × Space
+pair_at k s = (k, s)
+
+-- an allowed look is of its granule and space, which it is about to touch
+pub look_touches : (g : GeometryData) (c n pa k : ℕ) (space sp : Space) (gpi : Gpi) → is_allowed_look k sp (looked_entry g c n pa space gpi) ≡ true → In {A = ℕ × Space} (k, sp) (touch_by g pa space (Some gpi))
+look_touches g c n pa k space sp gpi is =
+    let parts = and_parts (permits_of gpi space) _ is in
+    let both = and_parts (eqb (granule_number g.setup pa) k) _ parts.1 in
+    let granule : granule_number g.setup pa ≡ k = eqb-true _ _ both.0 in
+    let same : space ≡ sp = permitted_space space sp both.1 in
+    rw parts.0 (inl (ap (λ (j : ℕ). pair_at j space) granule ∙ ap (pair_at k) same))
+
+-- and one that is permitted is allowed
+pub look_is : (g : GeometryData) (c n pa : ℕ) (space : Space) (gpi : Gpi) → permits_of gpi space ≡ true → is_allowed_look (granule_number g.setup pa) space (looked_entry g c n pa space gpi) ≡ true
+look_is g c n pa space gpi permits = rw (permits, eq-eqb (granule_number g.setup pa) (granule_number g.setup pa) refl, own_permits space) refl
