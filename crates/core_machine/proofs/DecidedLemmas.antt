@@ -100,3 +100,9 @@ look_touches g c n pa k space sp gpi is =
 -- and one that is permitted is allowed
 pub look_is : (g : GeometryData) (c n pa : ℕ) (space : Space) (gpi : Gpi) → permits_of gpi space ≡ true → is_allowed_look (granule_number g.setup pa) space (looked_entry g c n pa space gpi) ≡ true
 look_is g c n pa space gpi permits = rw (permits, eq-eqb (granule_number g.setup pa) (granule_number g.setup pa) refl, own_permits space) refl
+
+-- a line that is about to be touched is this one
+pub one_touch : (g : GeometryData) (pa : ℕ) (space : Space) (gpi : Gpi) (k : ℕ) (sp : Space) → In {A = ℕ × Space} (k, sp) (touch_by g pa space (Some gpi)) → (granule_number g.setup pa ≡ k) × (space ≡ sp)
+one_touch g pa space gpi k sp has =
+    let here : In {A = ℕ × Space} (k, sp) (pair_at (granule_number g.setup pa) space ∷ []) = (in_if (pair_at k sp) (permits_of gpi space) _ has).1 in
+    elim here [ inl is ↦ (ap (λ (p : ℕ × Space). p.0) is, ap (λ (p : ℕ × Space). p.1) is) | inr none ↦ absurd none ]

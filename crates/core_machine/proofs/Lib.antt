@@ -13,6 +13,7 @@ pub mod WalkLemmas
 pub mod MarkLemmas
 pub mod LineLemmas
 pub mod DecidedLemmas
+pub mod ListsLemmas
 pub mod StepLemmas
 pub mod ActLemmas
 pub mod LockActs

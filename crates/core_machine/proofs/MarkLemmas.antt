@@ -31,6 +31,9 @@ seen_more k sp h e = since_append k sp false h (e ∷ [])
 pub seen_stays : (k : ℕ) (sp : Space) (h : List Entry) (e : Entry) → changes_granule k e ≡ false → seen_in k sp h ≡ true → seen_in k sp (h ++ e ∷ []) ≡ true
 seen_stays k sp h e unchanged seen = seen_more k sp h e ∙ rw (unchanged, seen) (elim (cases_Bool (is_allowed_look k sp e)) [ inl is ↦ rw is refl | inr other ↦ rw other refl ])
 
+pub seen_look : (k : ℕ) (sp : Space) (h : List Entry) (e : Entry) → changes_granule k e ≡ false → is_allowed_look k sp e ≡ true → seen_in k sp (h ++ e ∷ []) ≡ true
+seen_look k sp h e unchanged is = seen_more k sp h e ∙ rw (unchanged, is) refl
+
 pub seen_changed : (k : ℕ) (sp : Space) (h : List Entry) (e : Entry) → changes_granule k e ≡ true → seen_in k sp (h ++ e ∷ []) ≡ false
 seen_changed k sp h e changed = seen_more k sp h e ∙ rw changed refl
 
