@@ -6,7 +6,7 @@ use Rattle.std.specs.Option.{option_map}
 use Rattle.std.proofs.lemmas.Bool.{eqb-true}
 use Rattle.std.proofs.lemmas.Option.{slice_get-map, slice_get-get_or}
 use Rattle.std.proofs.lemmas.List.{map-set, length-set}
-use Rattle.core_machine.proofs.Names.{Gpi, Size, Generations, SetupData, granule_bytes, size_bytes, space_bytes, words_of, canonical_word, word_gpi, l1_index, GeometryData, WordName, Generation, gen_place_of, blocks_in_region, l0_words, l1_index_of, l1_place_of, lock_number, Holder, Step, Whole, apart_by, AreWords, step_of, Task, Answer, Entry, caller_in, call_in, granule_in, State, start, after_entry, state_after, answered_entries, region_of, count_of, Stage, address_of, idle_answer, generation_in, granule_of_task, AgentData, IsAgent, task_of, goes_to, took_at, entries_at, Caller, IsCounted, generation_word, is_on_block, is_inside, open_at, SeesGeneration, SeesAt, is_due_at, is_around, coming_at, known_at, holds, open_by, is_due, IsMade, holder_by, HoldsIn, pairs_of, Scene, state_in, map_in, scene_after}
+use Rattle.core_machine.proofs.Names.{Gpi, Size, Generations, SetupData, granule_bytes, size_bytes, space_bytes, words_of, canonical_word, word_gpi, l1_index, GeometryData, WordName, Generation, gen_place_of, blocks_in_region, l0_words, l1_index_of, l1_place_of, lock_number, Holder, Step, Whole, apart_by, AreWords, step_of, Task, Answer, Entry, caller_in, call_in, granule_in, State, start, after_entry, state_after, answered_entries, region_of, count_of, Stage, address_of, idle_answer, generation_in, granule_of_task, AgentData, IsAgent, task_of, goes_to, took_at, entries_at, Caller, IsCounted, generation_word, is_on_block, is_inside, open_at, SeesGeneration, SeesAt, is_due_at, is_around, coming_at, known_at, holds, open_by, is_due, IsMade, holder_by, HoldsIn, NoLines, pairs_of, Scene, Change, state_in, map_in, scene_after}
 use Rattle.core_machine.proofs.Names.gpi
 use Rattle.core_machine.proofs.Names.size
 use Rattle.core_machine.proofs.Names.entry
@@ -27,11 +27,12 @@ use Rattle.core_machine.proofs.ListLemmas.{one, get_append, get_front, get_last}
 use Rattle.core_machine.proofs.CallerLemmas.{Owner, agent_has, due_alone, holder_there, others_closed, others_whole}
 use Rattle.core_machine.proofs.OpenedLemmas.{closed_here}
 use Rattle.core_machine.proofs.StampLemmas.{Rises}
-use Rattle.core_machine.specs.InnerAgentCaller.{unraised_at}
+use Rattle.core_machine.specs.InnerAgentCaller.{done_after, unraised_at}
+use Rattle.delegate_ops.specs.declared.stage.Change.TheVariants as change
 use Rattle.core_machine.specs.InnerWalks.{In}
 use Rattle.core_machine.proofs.WalkLemmas.{Tracks, tracks_same}
 use Rattle.core_machine.proofs.StepLemmas.{unraised_left, list_of, added_to, map_next, map_elsewhere, opened_with, IsEntryOf, no_duty, rises_left, step_keeps, counted_grown}
-use Rattle.core_machine.proofs.WordLemmas.{Writes, IsApart, is_generation, is_idle, is_level1, is_lock, generations_left, locks_left, plain_apart, words_left, writes_none}
+use Rattle.core_machine.proofs.WordLemmas.{Writes, IsApart, is_generation, is_duty, is_level1, is_line, is_lock, generations_left, locks_left, plain_apart, words_left, writes_none}
 
 -- ---- the caller that acts
 
@@ -187,7 +188,8 @@ pub record Goes (s : Scene) (c : ℕ) (a : AgentData) (t : Task) (st next : Stag
   pub writes : Writes a.geometry s.words n after
   pub block : (m : ℕ) → lock_of_task a t ≢ m → IsApart a.geometry m n
   pub no_lock : is_lock n ≡ false
-  pub idle : is_idle n ≡ false
+  pub no_duty_word : is_duty n ≡ false
+  pub line : (is_line n ≡ false) ⊎ NoLines a.geometry after
   pub rises : Rises a.geometry s.words after
   pub tracks : Tracks a.geometry s (λ y. unraised_at a.geometry y st (Some t)) (λ y. unraised_at a.geometry y next (Some t)) after (map_next s o) (s.history ++ list_of o)
   pub entry : IfSome o (IsOwn s c a t)
@@ -236,7 +238,13 @@ one_item (x ∷ []) zero given few there = (refl, let same : x ≡ given = cc in
 one_item (x ∷ []) (suc i) given few there = absurd cc
 one_item (x ∷ y ∷ xs) i given few there = absurd (omega (arith, few))
 
+after_few : (c : Change) (k : Generations) → length (done_after c k) < 2
+after_few change.First k = omega arith
+after_few change.Last k = omega arith
+
 coming_few : (st : Stage) → length (coming_at st) < 2
+coming_few (stage.Passing c d k) = after_few c k.generations
+coming_few (stage.Cleaning c l k) = after_few c k.generations
 coming_few (stage.Merging f k) = omega arith
 coming_few (stage.Releasing given) = omega arith
 coming_few st = omega arith
@@ -268,7 +276,7 @@ goes_keeps {s = s} {c = c} {a = a} {t = t} {st = st} acting next n after o goes 
       made = goes.made;
       writes = goes.writes;
       apart = λ m free. goes.block m (λ same. absurd (let both : true ≡ false = sym (owner_of acting goes.inside).has ∙ ap (λ (k : ℕ). holds k me) same ∙ free in cc));
-      duty = no_duty refl refl goes.idle;
+      duty = no_duty refl refl goes.no_duty_word goes.line;
       rises = goes.rises;
       loads = tt;
       stamps = tt;
@@ -316,10 +324,11 @@ tracks_quietly {s = s} {c = c} {a = a} {t = t} {st = st} acting next n after o w
 
 -- it writes no lock and no generation, and leaves the map
 pub goes_quietly : {s : Scene} {c : ℕ} {a : AgentData} {t : Task} {st : Stage} (acting : Acting s c a t st) (next : Stage) (n : Option WordName) (after : List ℕ) → IsAlike a.geometry c (length a.answers) t st next
-    → IsMade a.geometry (caller.Agent (goes_to (at_stage a st) next)) → Writes a.geometry s.words n after → is_lock n ≡ false → is_idle n ≡ false → is_generation n ≡ false
+    → IsMade a.geometry (caller.Agent (goes_to (at_stage a st) next)) → Writes a.geometry s.words n after → is_lock n ≡ false → is_duty n ≡ false → is_generation n ≡ false
+    → (is_line n ≡ false) ⊎ NoLines a.geometry after
     → AreWords a.geometry (map_in s) (apart_by a.geometry.setup (holders_of (set s.callers c (caller.Agent (goes_to (at_stage a st) next))))) after → SeesAt a.geometry (map_in s) after t next
     → ((given : Answer) → coming_at next ≡ given ∷ [] → coming_at st ≡ given ∷ []) → HoldsIn a.geometry (scene_after s c (caller.Agent (goes_to (at_stage a st) next)) after [])
-goes_quietly {s = s} {c = c} {a = a} {t = t} {st = st} acting next n after alike made writes no_lock idle no_generation words sees coming =
+goes_quietly {s = s} {c = c} {a = a} {t = t} {st = st} acting next n after alike made writes no_lock unlike no_generation line words sees coming =
     goes_keeps acting next n after None
     (record {
       inside = alike.inside;
@@ -328,7 +337,8 @@ goes_quietly {s = s} {c = c} {a = a} {t = t} {st = st} acting next n after alike
       writes = writes;
       block = λ m other. plain_apart a.geometry m n no_generation;
       no_lock = no_lock;
-      idle = idle;
+      no_duty_word = unlike;
+      line = line;
       rises = rises_left writes no_generation;
       tracks = tracks_quietly acting next n after None writes no_generation (λ k. refl) alike.opened alike.due;
       entry = tt;
@@ -345,4 +355,4 @@ pub load_quietly : {s : Scene} {c : ℕ} {a : AgentData} {t : Task} {st : Stage}
     → IsMade a.geometry (caller.Agent (goes_to (at_stage a st) next)) → AreWords a.geometry (map_in s) (apart_by a.geometry.setup (holders_of (set s.callers c (caller.Agent (goes_to (at_stage a st) next))))) s.words
     → SeesAt a.geometry (map_in s) s.words t next → coming_at next ≡ [] → HoldsIn a.geometry (scene_after s c (caller.Agent (goes_to (at_stage a st) next)) s.words [])
 load_quietly {s = s} {a = a} acting next alike made words sees none =
-    goes_quietly acting next None s.words alike made (writes_none a.geometry s.words) refl refl refl words sees (λ given is. absurd (let both : [] ≡ given ∷ [] = sym none ∙ is in cc))
+    goes_quietly acting next None s.words alike made (writes_none a.geometry s.words) refl refl refl (inl refl) words sees (λ given is. absurd (let both : [] ≡ given ∷ [] = sym none ∙ is in cc))

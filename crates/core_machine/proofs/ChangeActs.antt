@@ -99,7 +99,8 @@ change_holds {s = s} {c = c} {a = a} {t = t} i ch k acting index =
       writes = writes;
       block = λ m away. tt;
       no_lock = refl;
-      idle = refl;
+      no_duty_word = refl;
+      line = inl refl;
       rises = rises_left writes refl;
       tracks = record {
         changed = λ n. elim (cases_eq n granule) [

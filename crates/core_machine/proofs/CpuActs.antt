@@ -183,7 +183,7 @@ module _ {s : Scene} {c : ℕ} {q : CpuData} {pa : ℕ} {space : Space} {st : St
         no_level1 = no_level1;
         no_generation = no_generation;
         duty = record {
-          line = no_line;
+          line = inl no_line;
           number = ap Some number;
           own = λ p same. ap Some (mine p same);
           word = λ p is. subst (λ (r : ℕ). slice_index after (place_of q.geometry (Duty r)) ≡ duty_at x.stage) (let same : x.number ≡ p = cc in sym number ∙ same) on;
@@ -236,7 +236,7 @@ module _ {s : Scene} {c : ℕ} {q : CpuData} {pa : ℕ} {space : Space} {st : St
         made = made;
         writes = writes;
         apart = λ m free. tt;
-        duty = record { line = refl; number = refl; own = λ p same. absurd cc; word = λ p same. acting.stands.duties c p (caller.Cpu (cpu_at q st)) acting.at same ∙ on };
+        duty = record { line = inl refl; number = refl; own = λ p same. absurd cc; word = λ p same. acting.stands.duties c p (caller.Cpu (cpu_at q st)) acting.at same ∙ on };
         rises = rises_left writes refl;
         loads = loads_of q.cache next s.words loads;
         stamps = stamps_of q.cache next (s.history ++ e ∷ []) answered stamps;

@@ -15,7 +15,9 @@ pub mod ActLemmas
 pub mod LockActs
 pub mod LoadActs
 pub mod ChangeActs
+pub mod SettleLemmas
 pub mod RaiseActs
+pub mod CleanActs
 pub mod BlockActs
 pub mod CoverLemmas
 pub mod CpuActs

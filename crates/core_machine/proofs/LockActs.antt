@@ -45,7 +45,7 @@ lock_keeps {s = s} {c = c} {a = a} {t = t} {st = st} acting v x made none opened
       writes = writes_one a.geometry s.words (Lock (lock_of_task a t / 64)) v (omega (arith, low_of acting));
       no_level1 = refl;
       no_generation = refl;
-      duty = no_duty refl none refl;
+      duty = no_duty refl none refl (inl refl);
       loads = no_loads _ x none;
       stamps = no_stamps s.first s.history c x none;
       unraised = unraised;

@@ -7,7 +7,7 @@ use Rattle.std.specs.Option.{option_map}
 use Rattle.std.proofs.lemmas.Option.{slice_get-map}
 use Rattle.std.proofs.lemmas.List.{get_or-set_other, map-set}
 use Rattle.std.proofs.lemmas.List.Elements.{All-set}
-use Rattle.core_machine.proofs.Names.{Gpi, Size, granule_bytes, size_bytes, GeometryData, WordName, Duty, place_of, blocks_in_region, canonical_word, lock_bit, Holder, Whole, apart_by, Task, Answer, Entry, caller_in, call_in, granule_in, State, start, after_entry, state_after, is_by, region_of, count_of, Caller, number_by, duty_by, NumbersDiffer, holder_by, holds, open_by, Sees, is_due, known_answers, caller_tasks, IsMade, AreAllowed, HoldsIn, Scene, state_in, map_in, scene_after, map_at, IsCounted, generation_word, is_on_block}
+use Rattle.core_machine.proofs.Names.{Gpi, Size, granule_bytes, size_bytes, GeometryData, WordName, Duty, place_of, blocks_in_region, canonical_word, lock_bit, Holder, Whole, apart_by, Task, Answer, Entry, caller_in, call_in, granule_in, State, start, after_entry, state_after, is_by, region_of, count_of, Caller, number_by, duty_by, NoLines, NumbersDiffer, holder_by, holds, open_by, Sees, is_due, known_answers, caller_tasks, IsMade, AreAllowed, HoldsIn, Scene, state_in, map_in, scene_after, map_at, IsCounted, generation_word, is_on_block}
 use Rattle.core_machine.proofs.Names.gpi
 use Rattle.core_machine.proofs.Names.entry
 use Rattle.core_machine.proofs.Names.caller
@@ -23,7 +23,7 @@ use Rattle.core_machine.proofs.LockLemmas.{locks_keep}
 use Rattle.core_machine.proofs.AddressLemmas.{lock_of}
 use Rattle.core_machine.proofs.CallerLemmas.{held_once, made_at_place, others_closed, placed_at}
 use Rattle.core_machine.proofs.OpenedLemmas.{opened_after, opened_stays, opened_changes}
-use Rattle.core_machine.proofs.WordLemmas.{Writes, IsApart, block_left, plain_apart, is_generation, is_level1, is_idle, is_line, idle_duty, idle_line, generations_left, words_left, lines_left}
+use Rattle.core_machine.proofs.WordLemmas.{Writes, IsApart, block_left, plain_apart, is_generation, is_level1, is_duty, is_line, other_word, generations_left, words_left, lines_left}
 use Rattle.core_machine.specs.InnerCallers.{HasLoaded, HasOwnStamps, unraised_by, walks_by}
 use Rattle.core_machine.specs.InnerWalks.{In, WalkHolds, generation_around}
 use Rattle.walk_cache.specs.declared.walk.Walk.{Walk}
@@ -64,19 +64,20 @@ opened_with (Some e) pairs = opened_after e pairs
 
 -- ---- duty words
 
--- A caller that steps keeps its number, writes no duty word but its own and no line, and its duty word is as it is to be.
+-- A caller that steps keeps its number, writes no duty word but its own, and its duty word is as it is to be. Where it
+-- writes a line no line is resident after it.
 pub record MindsDuty (g : GeometryData) (me x : Caller) (n : Option WordName) (after : List ℕ) : Type 0 where
-  pub line : is_line n ≡ false
+  pub line : (is_line n ≡ false) ⊎ NoLines g after
   pub number : number_by x ≡ number_by me
   pub own : (p : ℕ) → n ≡ Some (Duty p) → number_by me ≡ Some p
   pub word : (p : ℕ) → number_by x ≡ Some p → slice_index after (place_of g (Duty p)) ≡ duty_by x
 
 -- one that is no processor writes none
-pub no_duty : {g : GeometryData} {me x : Caller} {n : Option WordName} {after : List ℕ} → number_by me ≡ None → number_by x ≡ None → is_idle n ≡ false → MindsDuty g me x n after
-no_duty {n = n} before none idle = record {
-  line = idle_line n idle;
+pub no_duty : {g : GeometryData} {me x : Caller} {n : Option WordName} {after : List ℕ} → number_by me ≡ None → number_by x ≡ None → is_duty n ≡ false → (is_line n ≡ false) ⊎ NoLines g after → MindsDuty g me x n after
+no_duty {n = n} before none unlike line = record {
+  line = line;
   number = none ∙ sym before;
-  own = λ p same. absurd (idle_duty n p idle same);
+  own = λ p same. absurd (other_word n p unlike same);
   word = λ p is. absurd (let both : None ≡ Some p = sym none ∙ is in cc);
 }
 
@@ -288,7 +289,7 @@ module _ {g : GeometryData} {s : Scene} {c : ℕ} {me x : Caller} {n : Option Wo
         duties = λ d p y there. each_set (λ (d : ℕ) (y : Caller). (p : ℕ) → number_by y ≡ Some p → slice_index after (place_of g (Duty p)) ≡ duty_by y) s.callers c x step.duty.word others_on d y there p;
         others = others_off;
         numbers = numbers_keep s.callers c me x step.at step.duty.number stands.numbers;
-        lines = lines_left step.writes step.duty.line stands.lines;
+        lines = elim step.duty.line [ inl other ↦ lines_left step.writes other stands.lines | inr none ↦ none ];
         least = λ y region within. omega (arith, stands.least y region within, step.rises y region within);
         loads = each_set (λ (d : ℕ) (y : Caller). HasLoaded after y) s.callers c x step.loads
             (λ d y apart there. caller_loads_rise g s.words after y (made_at_place g s d y stands there) step.rises (stands.loads d y there));
