@@ -10,8 +10,8 @@ use Rattle.gpi_values.specs.declared.gpi.Space.{Space}
 use Rattle.core_machine.specs.InnerAgentCaller.{unpassed_at, uncleaned_at}
 use Rattle.core_machine.specs.Lines.{seen_in}
 use Rattle.core_machine.proofs.MarkLemmas.{AgentMarks, agent_marks, agent_marks_same}
-use Rattle.core_machine.proofs.WordLemmas.{idle_line, is_line, lines_left}
-use Rattle.core_machine.proofs.Names.{Gpi, Size, Generations, SetupData, granule_bytes, size_bytes, space_bytes, words_of, canonical_word, word_gpi, l1_index, GeometryData, WordName, Generation, gen_place_of, blocks_in_region, l0_words, l1_index_of, l1_place_of, lock_number, Holder, Step, Whole, apart_by, AreWords, step_of, Task, Answer, Entry, caller_in, call_in, granule_in, State, start, after_entry, state_after, answered_entries, region_of, count_of, Stage, address_of, idle_answer, generation_in, granule_of_task, AgentData, IsAgent, task_of, goes_to, took_at, entries_at, Caller, IsCounted, generation_word, is_on_block, is_inside, open_at, SeesGeneration, SeesAt, is_due_at, is_around, coming_at, known_at, holds, open_by, is_due, IsMade, holder_by, HoldsIn, pairs_of, Scene, state_in, map_in, scene_after}
+use Rattle.core_machine.proofs.WordLemmas.{lines_left}
+use Rattle.core_machine.proofs.Names.{Gpi, Size, Generations, SetupData, granule_bytes, size_bytes, space_bytes, words_of, canonical_word, word_gpi, l1_index, GeometryData, WordName, Generation, gen_place_of, blocks_in_region, l0_words, l1_index_of, l1_place_of, lock_number, Holder, Step, Whole, apart_by, AreWords, step_of, Task, Answer, Entry, caller_in, call_in, granule_in, State, start, after_entry, state_after, answered_entries, region_of, count_of, Stage, address_of, idle_answer, generation_in, granule_of_task, AgentData, IsAgent, task_of, goes_to, took_at, entries_at, Caller, IsCounted, generation_word, is_on_block, is_inside, open_at, SeesGeneration, SeesAt, is_due_at, is_around, coming_at, known_at, holds, open_by, is_due, IsMade, holder_by, HoldsIn, pairs_of, Scene, Change, state_in, map_in, scene_after}
 use Rattle.core_machine.proofs.Names.gpi
 use Rattle.core_machine.proofs.Names.size
 use Rattle.core_machine.proofs.Names.entry
@@ -32,11 +32,12 @@ use Rattle.core_machine.proofs.ListLemmas.{one, get_append, get_front, get_last}
 use Rattle.core_machine.proofs.CallerLemmas.{Owner, agent_has, due_alone, holder_there, others_closed, others_whole}
 use Rattle.core_machine.proofs.OpenedLemmas.{closed_here}
 use Rattle.core_machine.proofs.StampLemmas.{Rises}
-use Rattle.core_machine.specs.InnerAgentCaller.{unraised_at}
+use Rattle.core_machine.specs.InnerAgentCaller.{done_after, unraised_at}
+use Rattle.delegate_ops.specs.declared.stage.Change.TheVariants as change
 use Rattle.core_machine.specs.InnerWalks.{In}
 use Rattle.core_machine.proofs.WalkLemmas.{Tracks, tracks_same}
 use Rattle.core_machine.proofs.StepLemmas.{unraised_left, list_of, added_to, map_next, map_elsewhere, opened_with, IsEntryOf, no_duty, rises_left, step_keeps, counted_grown}
-use Rattle.core_machine.proofs.WordLemmas.{Writes, IsApart, is_generation, is_idle, is_level1, is_lock, generations_left, locks_left, plain_apart, words_left, writes_none}
+use Rattle.core_machine.proofs.WordLemmas.{Writes, IsApart, is_generation, is_duty, is_level1, is_line, is_lock, generations_left, locks_left, plain_apart, words_left, writes_none}
 
 -- ---- the caller that acts
 
@@ -183,6 +184,11 @@ pub record IsOwn (s : Scene) (c : ℕ) (a : AgentData) (t : Task) (e : Entry) : 
   pub granule : granule_in e ≡ granule_of_task a.geometry t
   pub allowed : StateAllows (state_in s) e
 
+-- what it does to decisions and lines, by its stages
+abbrev pub MarksGo : Scene → AgentData → Task → Stage → Stage → List ℕ → Option Entry → Type 0
+MarksGo s a t st next after o =
+    AgentMarks a.geometry s (λ p. unpassed_at a.geometry p st (Some t)) (λ p. unpassed_at a.geometry p next (Some t)) (uncleaned_at a.geometry st (Some t)) (uncleaned_at a.geometry next (Some t)) after (map_next s o) (s.history ++ list_of o)
+
 -- It goes on to another stage inside. It wrote this word of its block, if it wrote one, and made this entry, if it
 -- made one.
 pub record Goes (s : Scene) (c : ℕ) (a : AgentData) (t : Task) (st next : Stage) (n : Option WordName) (after : List ℕ) (o : Option Entry) : Type 0 where
@@ -192,10 +198,10 @@ pub record Goes (s : Scene) (c : ℕ) (a : AgentData) (t : Task) (st next : Stag
   pub writes : Writes a.geometry s.words n after
   pub block : (m : ℕ) → lock_of_task a t ≢ m → IsApart a.geometry m n
   pub no_lock : is_lock n ≡ false
-  pub idle : is_idle n ≡ false
+  pub no_duty_word : is_duty n ≡ false
   pub rises : Rises a.geometry s.words after
   pub tracks : Tracks a.geometry s (λ y. unraised_at a.geometry y st (Some t)) (λ y. unraised_at a.geometry y next (Some t)) after (map_next s o) (s.history ++ list_of o)
-  pub marks : AgentMarks a.geometry s (λ p. unpassed_at a.geometry p st (Some t)) (λ p. unpassed_at a.geometry p next (Some t)) (uncleaned_at a.geometry st (Some t)) (uncleaned_at a.geometry next (Some t)) after (map_next s o) (s.history ++ list_of o)
+  pub marks : MarksGo s a t st next after o
   pub entry : IfSome o (IsOwn s c a t)
   pub words : AreWords a.geometry (map_next s o) (apart_by a.geometry.setup (holders_of (set s.callers c (caller.Agent (goes_to (at_stage a st) next))))) after
   pub opened : open_at a.geometry next (Some t) ≡ opened_with o (open_at a.geometry st (Some t))
@@ -242,7 +248,13 @@ one_item (x ∷ []) zero given few there = (refl, let same : x ≡ given = cc in
 one_item (x ∷ []) (suc i) given few there = absurd cc
 one_item (x ∷ y ∷ xs) i given few there = absurd (omega (arith, few))
 
+after_few : (c : Change) (k : Generations) → length (done_after c k) < 2
+after_few change.First k = omega arith
+after_few change.Last k = omega arith
+
 coming_few : (st : Stage) → length (coming_at st) < 2
+coming_few (stage.Passing c d k) = after_few c k.generations
+coming_few (stage.Cleaning c l k) = after_few c k.generations
 coming_few (stage.Merging f k) = omega arith
 coming_few (stage.Releasing given) = omega arith
 coming_few st = omega arith
@@ -274,7 +286,7 @@ goes_keeps {s = s} {c = c} {a = a} {t = t} {st = st} acting next n after o goes 
       made = goes.made;
       writes = goes.writes;
       apart = λ m free. goes.block m (λ same. absurd (let both : true ≡ false = sym (owner_of acting goes.inside).has ∙ ap (λ (k : ℕ). holds k me) same ∙ free in cc));
-      duty = no_duty refl refl goes.idle;
+      duty = no_duty refl refl goes.no_duty_word;
       rises = goes.rises;
       loads = tt;
       stamps = tt;
@@ -311,8 +323,6 @@ pub record IsAlike (g : GeometryData) (c k : ℕ) (t : Task) (st next : Stage) :
   pub stays : is_inside next ≡ true
   pub opened : open_at g next (Some t) ≡ open_at g st (Some t)
   pub due : (y : Size) → is_due_at next y ≡ is_due_at st y
-  pub unpassed : (p : ℕ) → unpassed_at g p next (Some t) ≡ unpassed_at g p st (Some t)
-  pub uncleaned : uncleaned_at g next (Some t) ≡ uncleaned_at g st (Some t)
   pub front : entries_at g c k next (Some t) ≡ entries_at g c k st (Some t)
 
 -- where no generation is written, and the map and the changes that aren't raised stay
@@ -326,17 +336,22 @@ tracks_quietly {s = s} {c = c} {a = a} {t = t} {st = st} acting next n after o w
 -- where no line is written, and the map, what was seen and the lists stay
 pub marks_quietly : {s : Scene} {c : ℕ} {a : AgentData} {t : Task} {st : Stage} (acting : Acting s c a t st) (next : Stage) (n : Option WordName) (after : List ℕ) (o : Option Entry) → Writes a.geometry s.words n after → is_line n ≡ false
     → ((k : ℕ) → map_next s o k ≡ map_in s k) → ((k : ℕ) (sp : Space) → seen_in k sp (s.history ++ list_of o) ≡ seen_in k sp s.history) → ((p : ℕ) → unpassed_at a.geometry p next (Some t) ≡ unpassed_at a.geometry p st (Some t))
-    → uncleaned_at a.geometry next (Some t) ≡ uncleaned_at a.geometry st (Some t)
-    → AgentMarks a.geometry s (λ p. unpassed_at a.geometry p st (Some t)) (λ p. unpassed_at a.geometry p next (Some t)) (uncleaned_at a.geometry st (Some t)) (uncleaned_at a.geometry next (Some t)) after (map_next s o) (s.history ++ list_of o)
+    → uncleaned_at a.geometry next (Some t) ≡ uncleaned_at a.geometry st (Some t) → MarksGo s a t st next after o
 marks_quietly {s = s} {a = a} acting next n after o writes plain map seen unpassed uncleaned =
     agent_marks_same a.geometry s _ _ _ _ _ _ _ map seen unpassed uncleaned (λ k sp. lines_left writes plain acting.stands.shape.geometry k sp)
 
+-- without an entry
+pub marks_stay : {s : Scene} {c : ℕ} {a : AgentData} {t : Task} {st : Stage} (acting : Acting s c a t st) (next : Stage) (n : Option WordName) (after : List ℕ) → Writes a.geometry s.words n after → is_line n ≡ false
+    → ((p : ℕ) → unpassed_at a.geometry p next (Some t) ≡ unpassed_at a.geometry p st (Some t)) → uncleaned_at a.geometry next (Some t) ≡ uncleaned_at a.geometry st (Some t) → MarksGo s a t st next after None
+marks_stay {s = s} acting next n after writes plain unpassed uncleaned = marks_quietly acting next n after None writes plain (λ k. refl) (λ k sp. ap (seen_in k sp) (append-nil s.history)) unpassed uncleaned
+
 -- it writes no lock and no generation, and leaves the map
 pub goes_quietly : {s : Scene} {c : ℕ} {a : AgentData} {t : Task} {st : Stage} (acting : Acting s c a t st) (next : Stage) (n : Option WordName) (after : List ℕ) → IsAlike a.geometry c (length a.answers) t st next
-    → IsMade a.geometry (caller.Agent (goes_to (at_stage a st) next)) → Writes a.geometry s.words n after → is_lock n ≡ false → is_idle n ≡ false → is_generation n ≡ false
+    → IsMade a.geometry (caller.Agent (goes_to (at_stage a st) next)) → Writes a.geometry s.words n after → is_lock n ≡ false → is_duty n ≡ false → is_generation n ≡ false
+    → MarksGo s a t st next after None
     → AreWords a.geometry (map_in s) (apart_by a.geometry.setup (holders_of (set s.callers c (caller.Agent (goes_to (at_stage a st) next))))) after → SeesAt a.geometry (map_in s) after t next
     → ((given : Answer) → coming_at next ≡ given ∷ [] → coming_at st ≡ given ∷ []) → HoldsIn a.geometry (scene_after s c (caller.Agent (goes_to (at_stage a st) next)) after [])
-goes_quietly {s = s} {c = c} {a = a} {t = t} {st = st} acting next n after alike made writes no_lock idle no_generation words sees coming =
+goes_quietly {s = s} {c = c} {a = a} {t = t} {st = st} acting next n after alike made writes no_lock unlike no_generation marks words sees coming =
     goes_keeps acting next n after None
     (record {
       inside = alike.inside;
@@ -345,10 +360,10 @@ goes_quietly {s = s} {c = c} {a = a} {t = t} {st = st} acting next n after alike
       writes = writes;
       block = λ m other. plain_apart a.geometry m n no_generation;
       no_lock = no_lock;
-      idle = idle;
+      no_duty_word = unlike;
       rises = rises_left writes no_generation;
       tracks = tracks_quietly acting next n after None writes no_generation (λ k. refl) alike.opened alike.due;
-      marks = marks_quietly acting next n after None writes (idle_line n idle) (λ k. refl) (λ k sp. ap (seen_in k sp) (append-nil s.history)) alike.unpassed alike.uncleaned;
+      marks = marks;
       entry = tt;
       words = words;
       opened = alike.opened;
@@ -360,7 +375,8 @@ goes_quietly {s = s} {c = c} {a = a} {t = t} {st = st} acting next n after alike
 
 -- it writes nothing, and no answer is to come
 pub load_quietly : {s : Scene} {c : ℕ} {a : AgentData} {t : Task} {st : Stage} (acting : Acting s c a t st) (next : Stage) → IsAlike a.geometry c (length a.answers) t st next
+    → ((p : ℕ) → unpassed_at a.geometry p next (Some t) ≡ unpassed_at a.geometry p st (Some t)) → uncleaned_at a.geometry next (Some t) ≡ uncleaned_at a.geometry st (Some t)
     → IsMade a.geometry (caller.Agent (goes_to (at_stage a st) next)) → AreWords a.geometry (map_in s) (apart_by a.geometry.setup (holders_of (set s.callers c (caller.Agent (goes_to (at_stage a st) next))))) s.words
     → SeesAt a.geometry (map_in s) s.words t next → coming_at next ≡ [] → HoldsIn a.geometry (scene_after s c (caller.Agent (goes_to (at_stage a st) next)) s.words [])
-load_quietly {s = s} {a = a} acting next alike made words sees none =
-    goes_quietly acting next None s.words alike made (writes_none a.geometry s.words) refl refl refl words sees (λ given is. absurd (let both : [] ≡ given ∷ [] = sym none ∙ is in cc))
+load_quietly {s = s} {a = a} acting next alike unpassed uncleaned made words sees none =
+    goes_quietly acting next None s.words alike made (writes_none a.geometry s.words) refl refl refl (marks_stay acting next None s.words (writes_none a.geometry s.words) refl unpassed uncleaned) words sees (λ given is. absurd (let both : [] ≡ given ∷ [] = sym none ∙ is in cc))

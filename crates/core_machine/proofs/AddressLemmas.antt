@@ -6,11 +6,12 @@ use Rattle.std.proofs.Math.Nat.{mod-add-div, div-lt_iff_lt-mul, mul-div_cancel, 
 use Rattle.std.proofs.lemmas.Nat.{div-add-mod', mul-add-lt, mod_below}
 use Rattle.std.proofs.lemmas.Bool.{cases_Bool, eqb-true, and_parts}
 use Rattle.std.proofs.lemmas.Option.{cond_some}
-use Rattle.core_machine.proofs.Names.{Gpi, Size, SetupData, granule_bytes, words_of, table_words, size_bytes, space_bytes, space_granules, space_words, word_gpi, l1_index, GeometryData, IsGeometry, Level1, place_of, l0_words, l1_words, l1_index_of, l1_place_of, lock_number, Task, region_of, address_of, idle_answer, granule_of_task}
+use Rattle.core_machine.proofs.Names.{Gpi, Size, SetupData, granule_bytes, words_of, table_words, size_bytes, space_bytes, space_granules, space_words, word_gpi, l1_index, GeometryData, IsGeometry, Level1, Line, place_of, l0_words, l1_words, l1_index_of, l1_place_of, lock_number, Task, region_of, address_of, idle_answer, granule_of_task}
 use Rattle.core_machine.proofs.Names.size
 use Rattle.gpt_descriptors.specs.declared.entry.L1Entry.{L1Entry}
 use Rattle.gpt_descriptors.specs.Sizes.{IsSetup, word_bytes, region_bytes}
 use Rattle.gpt_descriptors.specs.Entries.{l1_entry}
+use Rattle.gpt_descriptors.specs.Places.{line_place_of}
 use Rattle.gpt_descriptors.specs.Level0.{is_table, table_count}
 use Rattle.gpt_descriptors.proofs.SizeLemmas.{granule_low, word_is, table_whole, table_words_low, words_whole}
 use Rattle.gpt_descriptors.proofs.PlaceLemmas.{l1_index_within}
@@ -48,6 +49,14 @@ word_place g pa place (Some i) index there = (i, index, cc)
 -- the index of the L1 word at a place
 pub index_at : (g : GeometryData) (pa place : ℕ) → l1_place_of g pa ≡ Some place → (i : ℕ) × (l1_index_of g pa ≡ Some i) × (place ≡ place_of g (Level1 i))
 index_at g pa place there = word_place g pa place (l1_index_of g pa) refl there
+
+line_place : (g : GeometryData) (pa place : ℕ) (o : Option ℕ) → l1_index_of g pa ≡ o → option_map (λ i. place_of g (Line i)) o ≡ Some place → (i : ℕ) × (l1_index_of g pa ≡ Some i) × (place ≡ place_of g (Line i))
+line_place g pa place None index there = absurd cc
+line_place g pa place (Some i) index there = (i, index, cc)
+
+-- that of the line word at a place
+pub line_at : (g : GeometryData) (pa place : ℕ) → line_place_of g pa ≡ Some place → (i : ℕ) × (l1_index_of g pa ≡ Some i) × (place ≡ place_of g (Line i))
+line_at g pa place there = line_place g pa place (l1_index_of g pa) refl there
 
 -- ---- granules
 

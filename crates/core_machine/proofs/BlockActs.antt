@@ -3,6 +3,9 @@ use Rattle.std.proofs.Common.{◌≡◌, ℕ, zero, suc, ◌+◌, ◌*◌, ◌/�
 use Rattle.std.specs.Prelude.{slice_get, slice_index}
 use Rattle.std.proofs.lemmas.Bool.{cases_Bool, ltb-true, ltb-false}
 use Rattle.std.proofs.lemmas.Nat.{div-add-mod', mod_below}
+use Rattle.core_machine.specs.InnerAgentCaller.{unpassed_at, uncleaned_at}
+use Rattle.core_machine.proofs.ActLemmas.{marks_stay}
+use Rattle.core_machine.proofs.PassLemmas.{merged_unpassed, merged_uncleaned}
 use Rattle.core_machine.proofs.Names.{Gpi, Size, Generations, SetupData, words_of, size_bytes, canonical_word, l1_index, GeometryData, WordName, Level1, place_of, l0_words, l1_words, l1_index_of, Act, Fusing, Testing, Storing, Ended, Holder, Step, apart_by, AreWords, Facts, Keeps, step_of, Task, Kept, Stage, address_of, granule_of_task, AgentData, IsStage, goes_to, HoldsIn, Scene, scene_after, map_in, known_at, SeesGeneration, SeesAt, coming_at, IsMade}
 use Rattle.core_machine.proofs.Names.size
 use Rattle.core_machine.proofs.Names.l1
@@ -28,14 +31,14 @@ use Rattle.table_meaning.proofs.StepLemmas.{holder_reads, split_store, split_end
 use Rattle.shatter.specs.Splitting.{SplittingData, store_of, next_store, advanced, split_word}
 use Rattle.shatter.proofs.WordLemmas.{split_word_is}
 use Rattle.fuse.specs.Merging.{FuseData}
-use Rattle.delegate_ops.specs.Changing.{first_change, word_in_block}
-use Rattle.delegate_ops.specs.InnerAgents.{IsSplittingOf, IsMergingOf, split_stage, merging_stage, merged_stage}
+use Rattle.delegate_ops.specs.Changing.{word_in_block}
+use Rattle.delegate_ops.specs.InnerAgents.{IsSplittingOf, IsMergingOf, first_stage, split_stage, merging_stage, merged_stage}
 use Rattle.delegate_ops.proofs.AgentLemmas.{at_stage}
-use Rattle.core_machine.proofs.WordLemmas.{Writes, writes_none, writes_one, is_lock, is_idle, is_generation, generations_left}
+use Rattle.core_machine.proofs.WordLemmas.{Writes, writes_none, writes_one, is_lock, is_duty, is_line, is_generation, generations_left}
 use Rattle.core_machine.proofs.ActLemmas.{Acting, IsAlike, inside_of, seen_of, goes_quietly, holders_of, own_index, holder_at, alone_there, tables_after}
 use Rattle.core_machine.proofs.LockActs.{ActKeeps}
-use Rattle.core_machine.proofs.LoadActs.{first_from, first_entries, load_keeps}
-use Rattle.core_machine.proofs.RaiseActs.{merging_step_of}
+use Rattle.core_machine.proofs.LoadActs.{begins, begins_sees, begins_words, load_keeps}
+use Rattle.core_machine.proofs.SettleLemmas.{merging_step_of}
 use Rattle.core_machine.proofs.AddressLemmas.{index_below, word_by_granule, index_at}
 
 -- ---- splitting
@@ -61,13 +64,14 @@ set_twice (h ∷ hs) zero x y = refl
 set_twice (h ∷ hs) (suc c) x y = ap (λ (rest : List Holder). h ∷ rest) (set_twice hs c x y)
 
 -- a store of the block was made: this stage follows, by the holders after it
-split_goes : {s : Scene} {c : ℕ} {a : AgentData} {t : Task} {z : Size} {d : SplittingData} {k : Generations} (acting : Acting s c a t (stage.Splitting z d k)) (next : Stage) (j v : ℕ) → IsAlike a.geometry c (length a.answers) t (stage.Splitting z d k) next → coming_at next ≡ []
+split_goes : {s : Scene} {c : ℕ} {a : AgentData} {t : Task} {z : Size} {d : SplittingData} {k : Generations} (acting : Acting s c a t (stage.Splitting z d k)) (next : Stage) (j v : ℕ) → IsAlike a.geometry c (length a.answers) t (stage.Splitting z d k) next → ((p : ℕ) → unpassed_at a.geometry p next (Some t) ≡ []) → uncleaned_at a.geometry next (Some t) ≡ [] → coming_at next ≡ []
     → IsMade a.geometry (caller.Agent (goes_to (at_stage a (stage.Splitting z d k)) next)) → j < l1_words a.geometry
     → AreWords a.geometry (map_in s) (apart_by a.geometry.setup (set (holders_of s.callers) c (record { granule = granule_of_task a.geometry t; step = step_of (known_at next) }))) (set s.words (place_of a.geometry (Level1 j)) v)
     → SeesAt a.geometry (map_in s) (set s.words (place_of a.geometry (Level1 j)) v) t next
     → HoldsIn a.geometry (scene_after s c (caller.Agent (goes_to (at_stage a (stage.Splitting z d k)) next)) (set s.words (place_of a.geometry (Level1 j)) v) [])
-split_goes {s = s} {a = a} acting next j v alike none made within are sees =
-    goes_quietly acting next (Some (Level1 j)) (set s.words (place_of a.geometry (Level1 j)) v) alike made (writes_one a.geometry s.words (Level1 j) v within) refl refl refl (tables_after acting next (map_in s) _ are) sees
+split_goes {s = s} {a = a} acting next j v alike unpassed uncleaned none made within are sees =
+    goes_quietly acting next (Some (Level1 j)) (set s.words (place_of a.geometry (Level1 j)) v) alike made (writes_one a.geometry s.words (Level1 j) v within) refl refl refl
+    (marks_stay acting next (Some (Level1 j)) _ (writes_one a.geometry s.words (Level1 j) v within) refl unpassed uncleaned) (tables_after acting next (map_in s) _ are) sees
     (λ given is. absurd (let both : [] ≡ given ∷ [] = sym none ∙ is in cc))
 
 -- the words after a store, by its place and its word
@@ -97,11 +101,12 @@ split_holds {s = s} {c = c} {a = a} {t = t} z d k i acting low whole index =
     elim (cases_Bool (ltb (d.made + 1) d.words)) [
       | inl more ↦
           rw more
-          (split_goes acting (stage.Splitting z (advanced d) k) j v (record { inside = refl; stays = refl; opened = refl; due = λ y. refl; unpassed = λ p. refl; uncleaned = refl; front = refl }) refl (rw more at made) within are
+          (split_goes acting (stage.Splitting z (advanced d) k) j v (record { inside = refl; stays = refl; opened = refl; due = λ y. refl; front = refl }) (λ p. refl) refl refl (rw more at made) within are
           (record { known = known; gives = sees.gives; generations = generations }))
       | inr over ↦
           (let last : d.made + 1 ≡ n = omega (arith, low, whole, ltb-false _ _ over) in
           let kept : Kept = record { word = granules_of d.gpi; generations = k } in
+          let begin = begins g c (length a.answers) t kept in
           let word : Facts g.setup (map_in s) granule (Keeps (granules_of d.gpi)) = split_ended g.setup (map_in s) granule z d.gpi (d.made + 1) known in
           let middle : List Holder = set hs c (record { granule = granule; step = Splitting z (d.made + 1) }) in
           let ended = split_end g (map_in s) middle c granule z after
@@ -109,9 +114,9 @@ split_holds {s = s} {c = c} {a = a} {t = t} z d k i acting low whole index =
           (holder_set_same hs c (record { granule = granule; step = Splitting z d.made }) (record { granule = granule; step = Splitting z (d.made + 1) }) (holder_at acting)))
           (alone_stays g.setup hs c granule (record { granule = granule; step = Splitting z (d.made + 1) }) alone) sees.known.0 are in
           rw over
-          (split_goes acting (stage.Changing (first_change t) kept) j v (record { inside = refl; stays = refl; opened = refl; due = λ y. refl; unpassed = λ p. refl; uncleaned = refl; front = first_entries g c (length a.answers) t kept }) refl (rw over at made) within
-          (subst (λ (all : List Holder). AreWords g (map_in s) (apart_by g.setup all) after) (set_twice hs c _ _) ended)
-          (record { known = word; gives = first_from t (map_in s granule) sees.gives; generations = generations })))
+          (split_goes acting (first_stage t kept) j v (record { inside = refl; stays = begin.stays; opened = begin.opened; due = begin.due; front = begin.front }) begin.unpassed begin.uncleaned begin.coming (rw over at made) within
+          (begins_words (map_in s) after hs begin (subst (λ (all : List Holder). AreWords g (map_in s) (apart_by g.setup all) after) (set_twice hs c _ _) ended))
+          (begins_sees (map_in s) after begin word sees.gives generations)))
     ]
 
 pub split_keeps : {s : Scene} {c : ℕ} {a : AgentData} {t : Task} (z : Size) (d : SplittingData) (k : Generations) (next : Act) (acting : Acting s c a t (stage.Splitting z d k)) → next_store d ≡ Some next → ActKeeps s c a t (stage.Splitting z d k) next
@@ -142,8 +147,8 @@ merged_coming None f k = refl
 merged_coming (Some next) f k = refl
 
 merged_alike : (g : GeometryData) (c n : ℕ) (t : Task) (f e : FuseData) (k : Generations) (o : Option Act) → IsAlike g c n t (stage.Merging f k) (merging_stage o e k)
-merged_alike g c n t f e k None = record { inside = refl; stays = refl; opened = refl; due = λ y. refl; unpassed = λ p. refl; uncleaned = refl; front = refl }
-merged_alike g c n t f e k (Some next) = record { inside = refl; stays = refl; opened = refl; due = λ y. refl; unpassed = λ p. refl; uncleaned = refl; front = refl }
+merged_alike g c n t f e k None = record { inside = refl; stays = refl; opened = refl; due = λ y. refl; front = refl }
+merged_alike g c n t f e k (Some next) = record { inside = refl; stays = refl; opened = refl; due = λ y. refl; front = refl }
 
 merged_sees : (g : GeometryData) (m : ℕ → Gpi) (words : List ℕ) (t : Task) (f : FuseData) (k : Generations) (o : Option Act) → Facts g.setup m (granule_of_task g t) (Merges f.gpi f.step) → SeesAt g m words t (merging_stage o f k)
 merged_sees g m words t f k None known = record { known = tt; gives = tt; generations = tt }
@@ -151,14 +156,15 @@ merged_sees g m words t f k (Some next) known = record { known = known; gives = 
 
 -- after a load or a store that leaves merging here
 merged_holds : {s : Scene} {c : ℕ} {a : AgentData} {t : Task} {f : FuseData} {k : Generations} (acting : Acting s c a t (stage.Merging f k)) (e : FuseData) (n : Option WordName) (after : List ℕ) → Writes a.geometry s.words n after
-    → is_lock n ≡ false → is_idle n ≡ false → is_generation n ≡ false → IsMade a.geometry (caller.Agent (goes_to (at_stage a (stage.Merging f k)) (merged_stage e k)))
+    → is_lock n ≡ false → is_duty n ≡ false → is_generation n ≡ false → is_line n ≡ false → IsMade a.geometry (caller.Agent (goes_to (at_stage a (stage.Merging f k)) (merged_stage e k)))
     → AreWords a.geometry (map_in s) (apart_by a.geometry.setup (set (holders_of s.callers) c (record { granule = granule_of_task a.geometry t; step = merging_step e.step }))) after
     → Facts a.geometry.setup (map_in s) (granule_of_task a.geometry t) (Merges e.gpi e.step)
     → HoldsIn a.geometry (scene_after s c (caller.Agent (goes_to (at_stage a (stage.Merging f k)) (merged_stage e k))) after [])
-merged_holds {s = s} {c = c} {a = a} {t = t} {f = f} {k = k} acting e n after writes no_lock idle no_generation made are known =
+merged_holds {s = s} {c = c} {a = a} {t = t} {f = f} {k = k} acting e n after writes no_lock no_duty_word no_generation no_line made are known =
     let g = a.geometry in
     let next = merged_stage e k in
-    goes_quietly acting next n after (merged_alike g c (length a.answers) t f e k (fuse.next_of e)) made writes no_lock idle no_generation
+    goes_quietly acting next n after (merged_alike g c (length a.answers) t f e k (fuse.next_of e)) made writes no_lock no_duty_word no_generation
+    (marks_stay acting next n after writes no_line (λ p. merged_unpassed g p (fuse.next_of e) e k t) (merged_uncleaned g (fuse.next_of e) e k t))
     (tables_after acting next (map_in s) after
     (subst (λ (x : Step). AreWords g (map_in s) (apart_by g.setup (set (holders_of s.callers) c (record { granule = granule_of_task g t; step = x }))) after) (sym (merging_step_of e k (fuse.next_of e) refl)) are))
     (merged_sees g (map_in s) after t e k (fuse.next_of e) known)
@@ -189,7 +195,7 @@ merge_by {s = s} {c = c} {a = a} {t = t} first own two max v (Testing z j) k nex
     let load : act.Load (first + load_at two own z j) ≡ next = cc in
     subst (ActKeeps s c a t (stage.Merging f k)) load
     (load_keeps s c a t (stage.Merging f k) (first + load_at two own z j) tt
-    (merged_holds acting (fuse.took_of f word) None s.words (writes_none g s.words) refl refl refl (acting.made word)
+    (merged_holds acting (fuse.took_of f word) None s.words (writes_none g s.words) refl refl refl refl (acting.made word)
     (load_words g (map_in s) (holders_of s.callers) c granule v (loaded two max v z j word) s.words (holder_at acting) (alone_there acting refl) (loaded_unstored two max v z j word) after.1 acting.stands.tables.level1)
     after))
 merge_by {s = s} {c = c} {a = a} {t = t} first own two max v (Storing z j) k next acting is there =
@@ -211,7 +217,7 @@ merge_by {s = s} {c = c} {a = a} {t = t} first own two max v (Storing z j) k nex
     subst (ActKeeps s c a t (stage.Merging f k)) store (
       tt,
       subst (λ (p : ℕ). HoldsIn g (scene_after s c (caller.Agent (goes_to (at_stage a (stage.Merging f k)) (merged_stage (fuse.took_of f 0) k))) (set s.words p word) [])) (sym place)
-          (merged_holds acting (fuse.took_of f 0) (Some (Level1 i)) (set s.words (place_of g (Level1 i)) word) (writes_one g s.words (Level1 i) word within) refl refl refl (acting.made 0)
+          (merged_holds acting (fuse.took_of f 0) (Some (Level1 i)) (set s.words (place_of g (Level1 i)) word) (writes_one g s.words (Level1 i) word within) refl refl refl refl (acting.made 0)
           (subst (λ (n : ℕ). AreWords g (map_in s) (apart_by g.setup (set (holders_of s.callers) c (record { granule = granule; step = merging_step (stored n z j) }))) (set s.words (place_of g (Level1 i)) word)) (sym is.two) are)
           after),
     )

@@ -92,8 +92,11 @@ pub generations_stay : (g : GeometryData) (words after : List ℕ) (t : Task) (s
     → SeesGenerations g words t s → SeesGenerations g after t s
 generations_stay g words after t (stage.Reading z k) same sees = λ y before. same y ∙ sees y before
 generations_stay g words after t (stage.Splitting z d k) same sees = λ y. same y ∙ sees y
+generations_stay g words after t (stage.Preparing k) same sees = λ y. same y ∙ sees y
 generations_stay g words after t (stage.Changing c k) same sees = λ y. same y ∙ sees y
 generations_stay g words after t (stage.Raising c z k) same sees = λ y. same y ∙ sees y
+generations_stay g words after t (stage.Passing c d k) same sees = λ y. same y ∙ sees y
+generations_stay g words after t (stage.Cleaning c l k) same sees = λ y. same y ∙ sees y
 generations_stay g words after t s same sees = tt
 
 sees_in : (a : AgentData) (k l : ℕ → Gpi) (words after : List ℕ) → IsAgent a → ((n : ℕ) → agent_holds n a ≡ true → LeavesBlock a.geometry k l words after n) → agent_sees k words a → agent_sees l after a

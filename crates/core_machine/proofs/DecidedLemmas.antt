@@ -1,5 +1,5 @@
 -- Decided accesses: what their answers, their stages and their lists are.
-use Rattle.std.proofs.Common.{◌≡◌, ℕ, ◌⊎◌, ◌++◌, ◌∷◌, [], List, Bool, true, false, ◌&&◌, eqb, Option, Some, None, refl, sym, ap, ◌∙◌, subst, inl, inr}
+use Rattle.std.proofs.Common.{◌≡◌, ℕ, ◌⊎◌, ◌++◌, ◌∷◌, [], List, Bool, true, false, ◌&&◌, eqb, Option, Some, None, refl, sym, ap, ◌∙◌, subst, inl, inr, if◌then◌else◌}
 use Rattle.std.proofs.lemmas.Bool.{cases_Bool, and_parts, eqb-true, eq-eqb}
 use Rattle.core_machine.proofs.Names.{Gpi, GeometryData, Entry, Task, Caller, is_due_at, open_by}
 use Rattle.core_machine.proofs.Names.caller
@@ -61,32 +61,46 @@ prefix_permits g p c n pa space kept now s o events is prefix = part_permits g p
 
 -- ---- the stage of a decided access
 
+abbrev pair_at : ℕ → Space → ℕ × Space
+pair_at k s = (k, s)
+
+either_stage : (P : Stage → Type 0) (b : Bool) (x y : Stage) → P x → P y → P (if b then x else y)
+either_stage P true x y of_x of_y = of_x
+either_stage P false x y of_x of_y = of_y
+
+-- what holds at the touch and at the end
+pub decided_at_either : (P : Stage → Type 0) (a : Access) → P (stage.Touching a) → P (stage.Leaving a) → P (decided_stage a)
+decided_at_either P a touching leaving = either_stage P a.allowed (stage.Touching a) (stage.Leaving a) touching leaving
+
 pub decided_on : (a : Access) → duty_at (decided_stage a) ≡ 1
-decided_on a = elim (cases_Bool a.allowed) [ inl is ↦ rw is refl | inr other ↦ rw other refl ]
+decided_on a = decided_at_either (λ s. duty_at s ≡ 1) a refl refl
 
 pub decided_loads : (g : GeometryData) (words : List ℕ) (pa : ℕ) (a : Access) → loads_at g words pa (decided_stage a)
-decided_loads g words pa a = elim (cases_Bool a.allowed) [ inl is ↦ rw is tt | inr other ↦ rw other tt ]
+decided_loads g words pa a = decided_at_either (loads_at g words pa) a tt tt
 
 pub decided_stamps : (g : GeometryData) (map : List Gpi) (c k pa : ℕ) (space : Space) (a : Access) (h : List Entry) → StampedBy g map c k pa space a h → stamps_at g map c k pa space (decided_stage a) h
-decided_stamps g map c k pa space a h stamped = elim (cases_Bool a.allowed) [ inl is ↦ rw is stamped | inr other ↦ rw other stamped ]
+decided_stamps g map c k pa space a h stamped = decided_at_either (λ s. stamps_at g map c k pa space s h) a stamped stamped
 
 pub decided_walks : (a : Access) → walk_at (decided_stage a) ≡ []
-decided_walks a = elim (cases_Bool a.allowed) [ inl is ↦ rw is refl | inr other ↦ rw other refl ]
+decided_walks a = decided_at_either (λ s. walk_at s ≡ []) a refl refl
 
 pub decided_list : (g : GeometryData) (pa : ℕ) (space : Space) (a : Access) → decided_at g pa space (decided_stage a) ≡ decision_of g pa space (Some a.gpi)
-decided_list g pa space a = elim (cases_Bool a.allowed) [ inl is ↦ rw is refl | inr other ↦ rw other refl ]
+decided_list g pa space a = decided_at_either (λ s. decided_at g pa space s ≡ decision_of g pa space (Some a.gpi)) a refl refl
 
 pub decided_touching : (g : GeometryData) (pa : ℕ) (space : Space) (gpi : Gpi) (v : Via) → touching_at g pa space (decided_stage (table_access space gpi v)) ≡ touch_by g pa space (Some gpi)
-decided_touching g pa space gpi v = elim (cases_Bool (permits_of gpi space)) [ inl is ↦ rw (is, is) refl | inr other ↦ rw (other, other) refl ]
+decided_touching g pa space gpi v =
+    let a : Access = table_access space gpi v in
+    let at : Bool → List (ℕ × Space) = λ b. touching_at g pa space (if b then stage.Touching a else stage.Leaving a) in
+    elim (cases_Bool (permits_of gpi space)) [
+      | inl is ↦ ap at is
+      | inr other ↦ ap at other ∙ sym (ap (λ (b : Bool). if b then pair_at (granule_number g.setup pa) space ∷ [] else []) other)
+    ]
 
 -- ---- the look that it makes
 
 pub one_decision : (g : GeometryData) (pa : ℕ) (space : Space) (gpi : Gpi) (d : Decision) → In d (decision_of g pa space (Some gpi)) → record { granule = granule_number g.setup pa; space = space; gpi = gpi } ≡ d
 one_decision g pa space gpi d (inl is) = is
 one_decision g pa space gpi d (inr none) = absurd none
-
-abbrev pair_at : ℕ → Space → ℕ × Space
-pair_at k s = (k, s)
 
 -- an allowed look is of its granule and space, which it is about to touch
 pub look_touches : (g : GeometryData) (c n pa k : ℕ) (space sp : Space) (gpi : Gpi) → is_allowed_look k sp (looked_entry g c n pa space gpi) ≡ true → In {A = ℕ × Space} (k, sp) (touch_by g pa space (Some gpi))

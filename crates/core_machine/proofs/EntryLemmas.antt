@@ -15,13 +15,14 @@ use Rattle.gpi_values.specs.Values.{own_of}
 use Rattle.history.specs.Legality.{is_transition, IsChange}
 use Rattle.delegate_ops.specs.declared.stage.Change.TheVariants as change
 use Rattle.delegate_ops.specs.Deciding.{is_needed, refusal_of}
-use Rattle.delegate_ops.specs.InnerAgents.{IsChangeOf}
+use Rattle.delegate_ops.specs.InnerAgents.{IsChangeOf, IsCleaned}
 use Rattle.delegate_ops.specs.Script.{Decides, IsCall, change_entry}
 use Rattle.delegate_ops.proofs.DecidingLemmas.{acts_inside}
 use Rattle.delegate_ops.proofs.ScriptLemmas.{some_mapped}
 use Rattle.core_machine.proofs.ListLemmas.{all_one}
 use Rattle.core_machine.proofs.ToldLemmas.{idle_quiet}
-use Rattle.delegate_ops.specs.InnerEntries.{entries_before}
+use Rattle.delegate_ops.specs.InnerEntries.{entries_after, entries_before}
+use Rattle.delegate_ops.specs.declared.stage.Line.{Line}
 use Rattle.core_machine.proofs.AddressLemmas.{granule_within}
 
 -- ---- granules inside the space
@@ -148,6 +149,22 @@ raising_fits g c k s (task.Undelegate pa source) change.Last changes = (answer.D
 raising_fits g c k s task.Unknown ch changes = absurd changes
 raising_fits g c k s (task.Look pa space) ch changes = absurd changes
 
+completed_fits : (g : GeometryData) (c k : ℕ) (s : Stage) (t : Task) (ch : Change) → IsChangeOf t ch → IsPrefixFit g c k s (Some t) (entries_after g c k t ch)
+completed_fits g c k s (task.Delegate pa source) change.First changes = absurd changes
+completed_fits g c k s (task.Delegate pa source) change.Last changes = (answer.Done no_generations, 2, refl, tt, λ z v is. absurd cc)
+completed_fits g c k s (task.Undelegate pa source) change.First changes = (answer.Done no_generations, 2, refl, tt, λ z v is. absurd cc)
+completed_fits g c k s (task.Undelegate pa source) change.Last changes = (answer.Done no_generations, 4, refl, tt, λ z v is. absurd cc)
+completed_fits g c k s task.Unknown ch changes = absurd changes
+completed_fits g c k s (task.Look pa space) ch changes = absurd changes
+
+-- what is cleaned after a change is so after one of its task
+pub cleaned_change : (t : Task) (ch : Change) (l : Line) → IsCleaned t ch l → IsChangeOf t ch
+cleaned_change (task.Delegate pa source) change.First l is = absurd is
+cleaned_change (task.Delegate pa source) change.Last l is = tt
+cleaned_change (task.Undelegate pa source) ch l is = tt
+cleaned_change task.Unknown ch l is = absurd is
+cleaned_change (task.Look pa space) ch l is = absurd is
+
 no_task_prefix : (g : GeometryData) (c k : ℕ) (s : Stage) → entries_at g c k s None ≡ []
 no_task_prefix g c k stage.Locking = refl
 no_task_prefix g c k s = refl
@@ -157,6 +174,8 @@ prefix_fits g c k (stage.Changing ch kept) (Some t) events fits front = changing
 prefix_fits g c k (stage.Raising ch size.Two kept) (Some t) events fits front = raising_fits g c k (stage.Raising ch size.Two kept) t ch fits.0
 prefix_fits g c k (stage.Raising ch size.ThirtyTwo kept) (Some t) events fits front = raising_fits g c k (stage.Raising ch size.ThirtyTwo kept) t ch fits.0
 prefix_fits g c k (stage.Raising ch size.FiveTwelve kept) (Some t) events fits front = raising_fits g c k (stage.Raising ch size.FiveTwelve kept) t ch fits.0
+prefix_fits g c k (stage.Passing ch d kept) (Some t) events fits front = completed_fits g c k (stage.Passing ch d kept) t ch fits.0
+prefix_fits g c k (stage.Cleaning ch l kept) (Some t) events fits front = completed_fits g c k (stage.Cleaning ch l kept) t ch (cleaned_change t ch l fits.0)
 prefix_fits g c k (stage.Merging f kept) (Some t) events fits front =
     let es : List Entry = call_entries (granule_bytes g.setup) c k t (answer.Done kept) in
     (answer.Done kept, length es, sym (take_all (length es) es (omega arith)), tt, λ z v is. absurd cc)

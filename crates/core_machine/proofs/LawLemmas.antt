@@ -2,7 +2,7 @@
 use Rattle.std.proofs.Common.{◌≡◌, ℕ, ◌+◌, ◌*◌, ◌%◌, ◌<◌, ◌++◌, ◌∷◌, [], Option, Some, None, length, refl, ap, ◌∙◌, subst, inl, inr, sym, arith, false, ◌/◌, ◌⊎◌}
 use Rattle.std.specs.Prelude.{slice_get, option_and_then}
 use Rattle.std.proofs.lemmas.Bool.{cases_Bool, ltb-true}
-use Rattle.core_machine.proofs.Names.{GeometryData, l0_words, l1_words, l1_place_of, Level1, WordName, Generation, IsGeometry, Lock, word_count, gen_place_of, IsWordName, place_of, Act, place_in, answer_of, take_act, release_act, lock_number, Task, Stage, address_of, generation_in, idle_answer, AgentData, IsStage, HasActs, task_of, next_of, took_at, Caller, caller_next, IsMade, HoldsIn, Scene, lock_bit_of, granule_of_task, made_at, Gpi, Generations, l1_index, size_bytes, words_of, Fusing, Testing, Storing, Ended, Size, Answer}
+use Rattle.core_machine.proofs.Names.{GeometryData, l0_words, l1_words, l1_place_of, Level1, Line, Duty, WordName, Generation, IsGeometry, Lock, word_count, gen_place_of, IsWordName, place_of, Act, place_in, answer_of, take_act, release_act, lock_number, Task, Stage, address_of, generation_in, idle_answer, AgentData, IsStage, HasActs, task_of, next_of, took_at, Caller, caller_next, IsMade, HoldsIn, Scene, lock_bit_of, granule_of_task, made_at, Gpi, Generations, l1_index, size_bytes, words_of, Fusing, Testing, Storing, Ended, Size, Answer}
 use Rattle.core_machine.proofs.Names.act
 use Rattle.core_machine.proofs.Names.stage
 use Rattle.core_machine.proofs.Names.caller
@@ -10,7 +10,11 @@ use Rattle.core_machine.proofs.Names.size
 use Rattle.core_machine.proofs.Names.l1
 use Rattle.core_machine.proofs.Names.fuse
 use Rattle.invalidate.specs.Generations.{gen_load_of, gen_raise_of}
-use Rattle.delegate_ops.specs.Changing.{changed_word}
+use Rattle.delegate_ops.specs.Changing.{changed_word, target_space, space_of_line}
+use Rattle.alias_clean.specs.Lines.{line_mask}
+use Rattle.invalidate.specs.Duty.{barrier_load}
+use Rattle.gpt_descriptors.specs.Places.{line_place_of}
+use Rattle.std.specs.Int.{bit_not, w64}
 use Rattle.delegate_ops.specs.InnerAgents.{IsSplittingOf, IsMergingOf, act_at, is_held, took_under_way, took_of}
 use Rattle.delegate_ops.proofs.AgentLemmas.{took_is_agent}
 use Rattle.delegate_ops.proofs.ScriptLemmas.{some_mapped, step_walks}
@@ -23,8 +27,9 @@ use Rattle.core_machine.proofs.LoadActs.{look_keeps, read_keeps}
 use Rattle.core_machine.proofs.ChangeActs.{change_keeps}
 use Rattle.core_machine.proofs.RaiseActs.{raise_keeps}
 use Rattle.core_machine.proofs.BlockActs.{split_place, split_keeps, merge_keeps}
+use Rattle.core_machine.proofs.CleanActs.{prepare_keeps, pass_keeps, clean_keeps}
 use Rattle.core_machine.proofs.CpuActs.{access_keeps, cpu_accessing}
-use Rattle.core_machine.proofs.WordLemmas.{is_idle, is_lock}
+use Rattle.core_machine.proofs.WordLemmas.{is_duty, is_lock}
 use Rattle.processor.proofs.CpuLemmas.{next_below}
 use Rattle.gpt_descriptors.proofs.PlaceLemmas.{generation_named, index_within, place_below}
 use Rattle.delegate_ops.proofs.DecidingLemmas.{acts_inside}
@@ -35,7 +40,7 @@ use Rattle.table_meaning.proofs.PlaceLemmas.{block_index, load_index, store_inde
 use Rattle.table_meaning.proofs.FusingLemmas.{block_words_is}
 use Rattle.shatter.specs.Splitting.{store_of}
 use Rattle.core_machine.proofs.CallerLemmas.{made_at_place}
-use Rattle.core_machine.proofs.AddressLemmas.{lock_low, index_below, word_by_granule, index_at}
+use Rattle.core_machine.proofs.AddressLemmas.{lock_low, index_below, word_by_granule, index_at, line_at}
 
 -- ---- an agent after an act was made as before
 
@@ -43,6 +48,7 @@ use Rattle.core_machine.proofs.AddressLemmas.{lock_low, index_below, word_by_gra
 pub step_leaves : (a : AgentData) (t : Task) (s : Stage) (old : ℕ) → ((took_at a t s old).geometry ≡ a.geometry) × ((took_at a t s old).tasks ≡ a.tasks)
 step_leaves a t (stage.Releasing answer) old = (refl, refl)
 step_leaves a t stage.Locking old = elim (cases_Bool (is_held a.geometry t stage.Locking old)) [ inl held ↦ rw held (refl, refl) | inr free ↦ rw free (refl, refl) ]
+step_leaves a t (stage.Passing ch d k) old = elim (cases_Bool (is_held a.geometry t (stage.Passing ch d k) old)) [ inl busy ↦ rw busy (refl, refl) | inr passed ↦ rw passed (refl, refl) ]
 step_leaves a t s old = (refl, refl)
 
 pub took_leaves : (a : AgentData) (o : Option Task) (old : ℕ) → ((took_under_way a o old).geometry ≡ a.geometry) × ((took_under_way a o old).tasks ≡ a.tasks)
@@ -60,12 +66,12 @@ took_made g a next old made e = (
 
 -- ---- the word of an act
 
--- the act takes or releases its lock, or it is one on a word that is no lock
+-- the act takes or releases its lock, or it is one on a word that is no lock, and it only loads a duty word
 pub record IsOn (g : GeometryData) (t : Task) (st : Stage) (next : Act) : Type 0 where
   pub name : WordName
   pub named : IsWordName g name
   pub place : place_in next ≡ place_of g name
-  pub idle : is_idle (Some name) ≡ false
+  pub duty : (is_duty (Some name) ≡ false) ⊎ (next ≡ act.Load (place_of g name))
   pub how : ((st ≡ stage.Locking) × (next ≡ take_act (lock_bit_of g t))) ⊎ (((given : Answer) × (st ≡ stage.Releasing given) × (next ≡ release_act (lock_bit_of g t))) ⊎ (is_lock (Some name) ≡ false))
 
 lock_row : (g : GeometryData) (t : Task) → IsGeometry g → idle_answer g t ≡ None → lock_number g.setup (address_of t) / 64 < 2
@@ -74,14 +80,19 @@ lock_row g t geometry acts = omega (arith, lock_low g.setup (address_of t) geome
 on_level1 : (g : GeometryData) (t : Task) (st : Stage) (place : ℕ) (next : Act) → IsGeometry g → l1_place_of g (address_of t) ≡ Some place → place_in next ≡ place → IsOn g t st next
 on_level1 g t st place next geometry there here =
     let at = index_at g (address_of t) place there in
-    record { name = Level1 at.0; named = index_within g (address_of t) at.0 geometry at.1; place = here ∙ at.2; idle = refl; how = inr (inr refl) }
+    record { name = Level1 at.0; named = index_within g (address_of t) at.0 geometry at.1; place = here ∙ at.2; duty = inl refl; how = inr (inr refl) }
 
 on_generation : (g : GeometryData) (t : Task) (st : Stage) (z : Size) (next : Act) → idle_answer g t ≡ None → place_in next ≡ gen_place_of g z (address_of t) → IsOn g t st next
 on_generation g t st z next acts here =
-    record { name = Generation z (address_of t / size_bytes z); named = generation_named g z (address_of t) (acts_inside g t acts); place = here; idle = refl; how = inr (inr refl) }
+    record { name = Generation z (address_of t / size_bytes z); named = generation_named g z (address_of t) (acts_inside g t acts); place = here; duty = inl refl; how = inr (inr refl) }
+
+on_line : (g : GeometryData) (t : Task) (st : Stage) (place : ℕ) (next : Act) → IsGeometry g → line_place_of g (address_of t) ≡ Some place → place_in next ≡ place → IsOn g t st next
+on_line g t st place next geometry there here =
+    let at = line_at g (address_of t) place there in
+    record { name = Line at.0; named = index_within g (address_of t) at.0 geometry at.1; place = here ∙ at.2; duty = inl refl; how = inr (inr refl) }
 
 on_index : (g : GeometryData) (t : Task) (st : Stage) (i : ℕ) (next : Act) → i < l1_words g → place_in next ≡ place_of g (Level1 i) → IsOn g t st next
-on_index g t st i next within here = record { name = Level1 i; named = within; place = here; idle = refl; how = inr (inr refl) }
+on_index g t st i next within here = record { name = Level1 i; named = within; place = here; duty = inl refl; how = inr (inr refl) }
 
 merging_word : (g : GeometryData) (t : Task) (first own two : ℕ) (max : MaxBlock) (v : Gpi) (step : Fusing) (k : Generations) (next : Act) → IsGeometry g → IsMergingOf g (address_of t) (record { first = first; own = own; two = two; max = max; gpi = v; step = step })
     → fuse.act_at first own two v step ≡ Some next → IsOn g t (stage.Merging (record { first = first; own = own; two = two; max = max; gpi = v; step = step }) k) next
@@ -104,16 +115,26 @@ merging_word g t first own two max v (Ended o) k next geometry is e = absurd cc
 pub act_word : (g : GeometryData) (t : Task) (st : Stage) (next : Act) → IsGeometry g → idle_answer g t ≡ None → IsStage g st (Some t) → act_at g st t ≡ Some next → IsOn g t st next
 act_word g t stage.Locking next geometry acts fits e =
     let same : next ≡ take_act (lock_bit_of g t) = cc in
-    record { name = Lock (lock_number g.setup (address_of t) / 64); named = lock_row g t geometry acts; place = ap place_in same; idle = refl; how = inl (refl, same) }
+    record { name = Lock (lock_number g.setup (address_of t) / 64); named = lock_row g t geometry acts; place = ap place_in same; duty = inl refl; how = inl (refl, same) }
 act_word g t (stage.Releasing o) next geometry acts fits e =
     let same : next ≡ release_act (lock_bit_of g t) = cc in
-    record { name = Lock (lock_number g.setup (address_of t) / 64); named = lock_row g t geometry acts; place = ap place_in same; idle = refl; how = inr (inl (o, refl, same)) }
+    record { name = Lock (lock_number g.setup (address_of t) / 64); named = lock_row g t geometry acts; place = ap place_in same; duty = inl refl; how = inr (inl (o, refl, same)) }
 act_word g t stage.Looking next geometry acts fits e =
     let load = some_mapped act.Load (l1_place_of g (address_of t)) next e in
     on_level1 g t stage.Looking load.0 next geometry load.1 (ap place_in (sym load.2))
 act_word g t (stage.Reading z k) next geometry acts fits e =
     let same : next ≡ gen_load_of g z (address_of t) = cc in
     on_generation g t (stage.Reading z k) z next acts (ap place_in same)
+act_word g t (stage.Preparing k) next geometry acts fits e =
+    let clean = some_mapped (λ place. act.And place (bit_not w64 (line_mask g (address_of t) (target_space t)))) (line_place_of g (address_of t)) next e in
+    on_line g t (stage.Preparing k) clean.0 next geometry clean.1 (ap place_in (sym clean.2))
+act_word g t (stage.Cleaning ch l k) next geometry acts fits e =
+    let clean = some_mapped (λ place. act.And place (bit_not w64 (line_mask g (address_of t) (space_of_line t ch l)))) (line_place_of g (address_of t)) next e in
+    on_line g t (stage.Cleaning ch l k) clean.0 next geometry clean.1 (ap place_in (sym clean.2))
+act_word g t (stage.Passing ch d k) next geometry acts fits e =
+    let load : barrier_load g d.passed ≡ next = let both : Some (barrier_load g d.passed) ≡ Some next = rw fits.1.low at e in cc in
+    let low : d.passed < g.cpus = subst (λ (n : ℕ). d.passed < n) fits.1.cpus (ltb-true _ _ fits.1.low) in
+    record { name = Duty d.passed; named = low; place = ap place_in (sym load); duty = inr (sym load); how = inr (inr refl) }
 act_word g t (stage.Changing ch k) next geometry acts fits e =
     let store = some_mapped (λ place. act.Store place (changed_word g t ch k.word)) (l1_place_of g (address_of t)) next e in
     on_level1 g t (stage.Changing ch k) store.0 next geometry store.1 (ap place_in (sym store.2))
@@ -147,6 +168,9 @@ agent_keeps (stage.Reading z k) next acting e = by_act acting (read_keeps z k ac
 agent_keeps {s = s} {c = c} {a = a} {t = t} (stage.Changing ch k) next acting e =
     let store = some_mapped (λ place. act.Store place (changed_word a.geometry t ch k.word)) (l1_place_of a.geometry (address_of t)) next e in
     subst (ActKeeps s c a t (stage.Changing ch k)) store.2 (change_keeps ch k store.0 acting store.1)
+agent_keeps (stage.Preparing k) next acting e = prepare_keeps k next acting e
+agent_keeps (stage.Passing ch d k) next acting e = pass_keeps ch d k next acting e
+agent_keeps (stage.Cleaning ch l k) next acting e = clean_keeps ch l k next acting e
 agent_keeps (stage.Raising ch z k) next acting e = by_act acting (raise_keeps ch z k acting) e
 agent_keeps (stage.Releasing given) next acting e = by_act acting (release_keeps given acting) e
 agent_keeps (stage.Splitting z d k) next acting e = split_keeps z d k next acting e

@@ -14,12 +14,15 @@ pub mod MarkLemmas
 pub mod LineLemmas
 pub mod DecidedLemmas
 pub mod ListsLemmas
+pub mod PassLemmas
 pub mod StepLemmas
 pub mod ActLemmas
 pub mod LockActs
 pub mod LoadActs
 pub mod ChangeActs
+pub mod SettleLemmas
 pub mod RaiseActs
+pub mod CleanActs
 pub mod BlockActs
 pub mod CoverLemmas
 pub mod CpuActs

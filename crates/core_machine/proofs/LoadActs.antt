@@ -1,9 +1,9 @@
 -- The loads under a lock: of the L1 word, and of the generations.
-use Rattle.std.proofs.Common.{◌≡◌, ℕ, ◌/◌, ◌++◌, ◌∷◌, [], List, true, false, Option, Some, None, length, refl, sym, ap, ◌∙◌, subst, arith, inl, inr}
+use Rattle.std.proofs.Common.{◌≡◌, ℕ, ◌/◌, ◌++◌, ◌∷◌, [], List, true, false, Option, Some, None, length, set, refl, sym, ap, ◌∙◌, subst, arith, inl, inr}
 use Rattle.std.specs.Prelude.{slice_index}
 use Rattle.std.proofs.lemmas.Bool.{cases_Bool, eqb-true}
 use Rattle.std.proofs.lemmas.List.{set-get_or}
-use Rattle.core_machine.proofs.Names.{Gpi, Size, Generations, granule_bytes, canonical_word, GeometryData, gen_place_of, l1_place_of, Whole, step_of, Task, Answer, Entry, needed, count_of, region_of, Kept, Stage, address_of, idle_answer, granule_place, generation_in, worn_answer, AgentData, is_look, goes_to, took_at, fresh, HoldsIn, Scene, scene_after, map_in, IsCounted, entries_at, made_at, granule_of_task, is_inside, known_at, comes_before, SeesGeneration, open_at, is_due_at, IsMade}
+use Rattle.core_machine.proofs.Names.{Gpi, Size, Generations, granule_bytes, canonical_word, GeometryData, gen_place_of, l1_place_of, Whole, Holder, Step, AreWords, apart_by, Facts, Keeps, step_of, coming_at, SeesAt, Task, Answer, Entry, needed, count_of, region_of, Kept, Stage, address_of, idle_answer, granule_place, generation_in, worn_answer, AgentData, is_look, goes_to, took_at, fresh, HoldsIn, Scene, scene_after, map_in, IsCounted, entries_at, made_at, granule_of_task, is_inside, known_at, comes_before, SeesGeneration, open_at, is_due_at, IsMade}
 use Rattle.core_machine.proofs.Names.gpi
 use Rattle.core_machine.proofs.Names.size
 use Rattle.core_machine.proofs.Names.l1
@@ -23,7 +23,7 @@ use Rattle.table_meaning.proofs.StepLemmas.{split_begin, no_split}
 use Rattle.history.specs.Counts.{counts_around}
 use Rattle.delegate_ops.specs.Deciding.{is_needed, refusal_of, looked_answer}
 use Rattle.delegate_ops.specs.Changing.{first_change, from_of}
-use Rattle.delegate_ops.specs.InnerAgents.{IsReadable, looked_stage, loaded_stage, read_all, read_stage, kept_read}
+use Rattle.delegate_ops.specs.InnerAgents.{IsReadable, first_stage, looked_stage, loaded_stage, read_all, read_stage, kept_read}
 use Rattle.delegate_ops.proofs.AgentLemmas.{at_stage, no_look_at}
 use Rattle.delegate_ops.proofs.ScriptLemmas.{some_mapped}
 use Rattle.core_machine.proofs.EntryLemmas.{refused_is}
@@ -35,7 +35,8 @@ use Rattle.core_machine.proofs.CountedLemmas.{worn_counted}
 use Rattle.core_machine.proofs.LockActs.{ActKeeps}
 use Rattle.core_machine.proofs.StepLemmas.{rises_left}
 use Rattle.delegate_ops.specs.InnerEntries.{known_entries}
-use Rattle.core_machine.specs.InnerAgentCaller.{SeesGenerations}
+use Rattle.table_meaning.specs.Equation.{Apart}
+use Rattle.core_machine.specs.InnerAgentCaller.{GivesAt, SeesGenerations}
 use Rattle.core_machine.proofs.AddressLemmas.{word_readable}
 
 -- ---- a load
@@ -66,7 +67,7 @@ refuse {s = s} {c = c} {a = a} {t = t} {st = st} acting given inside whole made 
       writes = writes_none a.geometry s.words;
       block = λ m other. tt;
       no_lock = refl;
-      idle = refl;
+      no_duty_word = refl;
       rises = rises_left (writes_none a.geometry s.words) refl;
       tracks = tracks_quietly acting (stage.Releasing given) None s.words (Some e) (writes_none a.geometry s.words) refl (λ k. refl) (sym open_none) (λ y. sym (due_none y));
       marks = marks_quietly acting (stage.Releasing given) None s.words (Some e) (writes_none a.geometry s.words) refl (λ k. refl) (λ k sp. seen_more k sp s.history e) (λ p. sym (unpassed_none p)) (sym uncleaned_none);
@@ -105,7 +106,7 @@ looked_keeps : {s : Scene} {c : ℕ} {a : AgentData} {t : Task} (acting : Acting
     → IsMade a.geometry (caller.Agent (goes_to (at_stage a stage.Looking) (looked_stage o word)))
     → HoldsIn a.geometry (scene_after s c (caller.Agent (goes_to (at_stage a stage.Looking) (looked_stage o word))) s.words (known_entries a.geometry c (length a.answers) t o))
 looked_keeps {s = s} {a = a} {t = t} acting word None is fine made =
-    load_quietly acting (looked_stage None word) (record { inside = refl; stays = refl; opened = refl; due = λ y. refl; unpassed = λ p. refl; uncleaned = refl; front = refl }) made
+    load_quietly acting (looked_stage None word) (record { inside = refl; stays = refl; opened = refl; due = λ y. refl; front = refl }) (λ p. refl) refl made
     (tables_stay acting refl (looked_stage None word) refl (writes_none a.geometry s.words) refl)
     (record {
       known = is;
@@ -144,10 +145,39 @@ first_from (task.Delegate pa source) found needs = cc
 first_from (task.Undelegate pa source) found needs = cc
 first_from t found needs = absurd cc
 
--- nothing comes before the first change
-pub first_entries : (g : GeometryData) (c k : ℕ) (t : Task) (kept : Kept) → entries_at g c k (stage.Changing (first_change t) kept) (Some t) ≡ []
-first_entries g c k (task.Delegate pa source) kept = refl
-first_entries g c k t kept = refl
+-- what holds of the stage with which a transition goes on to its first change
+pub record Begins (g : GeometryData) (c n : ℕ) (t : Task) (k : Kept) (next : Stage) : Type 0 where
+  pub stays : is_inside next ≡ true
+  pub opened : open_at g next (Some t) ≡ []
+  pub due : (y : Size) → is_due_at next y ≡ false
+  pub front : entries_at g c n next (Some t) ≡ []
+  pub known : known_at next ≡ Keeps k.word
+  pub gives : (v : Gpi) → needed t ≡ Some v → GivesAt t next v
+  pub generations : (words : List ℕ) → ((y : Size) → SeesGeneration g words t k.generations y) → SeesGenerations g words t next
+  pub coming : coming_at next ≡ []
+  pub unpassed : (p : ℕ) → unpassed_at g p next (Some t) ≡ []
+  pub uncleaned : uncleaned_at g next (Some t) ≡ []
+
+pub begins : (g : GeometryData) (c n : ℕ) (t : Task) (k : Kept) → Begins g c n t k (first_stage t k)
+begins g c n (task.Delegate pa source) k =
+    record { stays = refl; opened = refl; due = λ y. refl; front = refl; known = refl; gives = first_from (task.Delegate pa source); generations = λ words sees. sees; coming = refl; unpassed = λ p. refl; uncleaned = refl }
+begins g c n (task.Undelegate pa source) k =
+    record { stays = refl; opened = refl; due = λ y. refl; front = refl; known = refl; gives = first_from (task.Undelegate pa source); generations = λ words sees. sees; coming = refl; unpassed = λ p. refl; uncleaned = refl }
+begins g c n t k = record { stays = refl; opened = refl; due = λ y. refl; front = refl; known = refl; gives = λ v needs. absurd cc; generations = λ words sees. sees; coming = refl; unpassed = λ p. refl; uncleaned = refl }
+
+pub begins_sees : {g : GeometryData} {c n : ℕ} {t : Task} {k : Kept} {next : Stage} (m : ℕ → Gpi) (words : List ℕ) → Begins g c n t k next → Facts g.setup m (granule_of_task g t) (Keeps k.word) → needed t ≡ Some (m (granule_of_task g t))
+    → ((y : Size) → SeesGeneration g words t k.generations y) → SeesAt g m words t next
+begins_sees {g = g} {t = t} m words begin known needs generations = record {
+  known = subst (Facts g.setup m (granule_of_task g t)) (sym begin.known) known;
+  gives = begin.gives (m (granule_of_task g t)) needs;
+  generations = begin.generations words generations;
+}
+
+-- the L1 words by what it keeps
+pub begins_words : {g : GeometryData} {c n : ℕ} {t : Task} {k : Kept} {next : Stage} (m : ℕ → Gpi) (words : List ℕ) (hs : List Holder) → Begins g c n t k next
+    → AreWords g m (apart_by g.setup (set hs c (record { granule = granule_of_task g t; step = Apart }))) words → AreWords g m (apart_by g.setup (set hs c (record { granule = granule_of_task g t; step = step_of (known_at next) }))) words
+begins_words {g = g} {c = c} {t = t} m words hs begin are =
+    subst (λ (x : Step). AreWords g m (apart_by g.setup (set hs c (record { granule = granule_of_task g t; step = x }))) words) (sym (ap step_of begin.known)) are
 
 -- the counts, size by size
 pub counts_from : (first bytes granule : ℕ) (h : List Entry) (k : Generations) → ((y : Size) → generation_in y k ≡ count_of first bytes y (region_of bytes y granule) h) → k ≡ counts_around first bytes granule h
@@ -164,17 +194,19 @@ loaded_keeps {s = s} {c = c} {a = a} {t = t} acting k (Some (l1.Contig z v)) kno
     let g = a.geometry in
     let granule = granule_of_task g t in
     let next = loaded_stage g t (Some (l1.Contig z v)) k in
-    load_quietly acting next (record { inside = refl; stays = refl; opened = refl; due = λ y. refl; unpassed = λ p. refl; uncleaned = refl; front = refl }) made
+    load_quietly acting next (record { inside = refl; stays = refl; opened = refl; due = λ y. refl; front = refl }) (λ p. refl) refl made
     (tables_after acting next (map_in s) s.words (split_begin g (map_in s) (holders_of s.callers) c granule z s.words (holder_at acting) (alone_there acting refl) acting.stands.tables.level1))
     (record { known = splits g.setup (map_in s) granule k.word z v known read; gives = gives; generations = generations }) refl
 loaded_keeps {s = s} {c = c} {a = a} {t = t} acting k (Some (l1.Granules fields)) known gives generations read made =
     let g = a.geometry in
     let granule = granule_of_task g t in
-    let next = stage.Changing (first_change t) k in
-    load_quietly acting next (record { inside = refl; stays = refl; opened = refl; due = λ y. refl; unpassed = λ p. refl; uncleaned = refl; front = first_entries g c (length a.answers) t k }) made
+    let next = first_stage t k in
+    let begin = begins g c (length a.answers) t k in
+    load_quietly acting next (record { inside = refl; stays = begin.stays; opened = begin.opened; due = begin.due; front = begin.front }) begin.unpassed begin.uncleaned made
     (tables_after acting next (map_in s) s.words
-    (no_split g (map_in s) (holders_of s.callers) c granule s.words (holder_at acting) (alone_there acting refl) (looked_none g.setup (map_in s) granule k.word fields known read) acting.stands.tables.level1))
-    (record { known = keeps g.setup (map_in s) granule k.word fields known read; gives = first_from t (map_in s granule) gives; generations = generations }) refl
+    (begins_words (map_in s) s.words (holders_of s.callers) begin
+    (no_split g (map_in s) (holders_of s.callers) c granule s.words (holder_at acting) (alone_there acting refl) (looked_none g.setup (map_in s) granule k.word fields known read) acting.stands.tables.level1)))
+    (begins_sees (map_in s) s.words begin (keeps g.setup (map_in s) granule k.word fields known read) gives generations) begin.coming
 
 -- with all generations loaded
 all_read : {s : Scene} {c : ℕ} {a : AgentData} {t : Task} {old : Kept} (acting : Acting s c a t (stage.Reading size.FiveTwelve old)) (k : Kept) (o : Option Answer) → k.word ≡ canonical_word a.geometry.setup (map_in s) None (granule_of_task a.geometry t / 16)
@@ -213,13 +245,13 @@ read_at : {s : Scene} {c : ℕ} {a : AgentData} {t : Task} (z : Size) (k : Kept)
 read_at {s = s} {a = a} {t = t} size.Two k old acting is =
     let sees = seen_of acting in
     let next = stage.Reading size.ThirtyTwo (kept_read size.Two old k) in
-    load_quietly acting next (record { inside = refl; stays = refl; opened = refl; due = λ y. refl; unpassed = λ p. refl; uncleaned = refl; front = refl }) (acting.made old)
+    load_quietly acting next (record { inside = refl; stays = refl; opened = refl; due = λ y. refl; front = refl }) (λ p. refl) refl (acting.made old)
     (tables_stay acting refl next refl (writes_none a.geometry s.words) refl)
     (record { known = sees.known; gives = sees.gives; generations = two_seen a.geometry s.words t k old is }) refl
 read_at {s = s} {a = a} {t = t} size.ThirtyTwo k old acting is =
     let sees = seen_of acting in
     let next = stage.Reading size.FiveTwelve (kept_read size.ThirtyTwo old k) in
-    load_quietly acting next (record { inside = refl; stays = refl; opened = refl; due = λ y. refl; unpassed = λ p. refl; uncleaned = refl; front = refl }) (acting.made old)
+    load_quietly acting next (record { inside = refl; stays = refl; opened = refl; due = λ y. refl; front = refl }) (λ p. refl) refl (acting.made old)
     (tables_stay acting refl next refl (writes_none a.geometry s.words) refl)
     (record { known = sees.known; gives = sees.gives; generations = thirty_two_seen a.geometry s.words t k old sees.generations is }) refl
 read_at {s = s} {a = a} {t = t} size.FiveTwelve k old acting is =

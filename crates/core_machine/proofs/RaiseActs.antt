@@ -1,30 +1,23 @@
 -- The raises of the generations after a change.
-use Rattle.std.proofs.Common.{◌≡◌, ◌≢◌, ℕ, ◌+◌, ◌*◌, ◌/◌, ◌<◌, ◌⊎◌, ◌++◌, ◌∷◌, [], List, true, false, not, ◌&&◌, Some, length, set, ap, refl, sym, ◌∙◌, subst, arith, inl, inr, append-nil, None, Option}
+use Rattle.std.proofs.Common.{◌≡◌, ◌≢◌, ℕ, ◌+◌, ◌*◌, ◌/◌, ◌<◌, ◌⊎◌, ◌++◌, ◌∷◌, [], List, true, false, not, ◌&&◌, Some, length, set, ap, refl, sym, ◌∙◌, subst, arith, inl, inr, append_assoc, append-nil, None, Option}
 use Rattle.std.specs.Prelude.{IfSome, slice_index}
 use Rattle.std.proofs.lemmas.Bool.{cases_eq, eq-eqb, ne_eqb}
 use Rattle.std.proofs.lemmas.List.{get_or-set_same}
+use Rattle.core_machine.proofs.ActLemmas.{MarksGo, marks_stay}
+use Rattle.core_machine.proofs.MarkLemmas.{seen_more}
+use Rattle.core_machine.proofs.PassLemmas.{barrier_marks, raised_passes}
+use Rattle.core_machine.proofs.WordLemmas.{lines_left}
 use Rattle.core_machine.proofs.Names.{Size, Generations, granule_bytes, size_bytes, Gpi, words_of, GeometryData, Generation, Level1, place_of, l1_index_of, gen_place_of, blocks_in_region, Act, Fusing, Testing, Storing, Ended, Step, Whole, apart_by, AreWords, Facts, Keeps, step_of, Task, Answer, Entry, region_of, Change, Kept, Stage, address_of, generation_in, AgentData, IsStage, task_of, goes_to, HoldsIn, Scene, state_in, scene_after, map_in, IsCounted, generation_word, entries_at, made_at, granule_of_task, is_inside, open_at, comes_before, SeesGeneration, SeesAt, is_due_at, is_around, coming_at, known_at, is_due, IsMade}
 use Rattle.core_machine.proofs.Names.size
-use Rattle.core_machine.proofs.Names.fuse
-use Rattle.core_machine.proofs.Names.task
 use Rattle.core_machine.proofs.Names.answer
 use Rattle.core_machine.proofs.Names.entry
 use Rattle.core_machine.proofs.Names.stage
 use Rattle.core_machine.proofs.Names.caller
-use Rattle.gpt_descriptors.specs.Fields.{equal_gpi}
-use Rattle.gpt_descriptors.specs.Canonical.{largest_block}
 use Rattle.gpt_descriptors.proofs.PlaceLemmas.{generation_named}
-use Rattle.table_meaning.specs.Fusing.{begun}
-use Rattle.table_meaning.specs.Facts.{Merges, merging_step}
-use Rattle.table_meaning.proofs.FactLemmas.{merges}
-use Rattle.table_meaning.proofs.TestLemmas.{finds_largest}
-use Rattle.gpt_descriptors.proofs.PackedLemmas.{equal_found, equal_none}
-use Rattle.table_meaning.proofs.StepLemmas.{load_words, no_merge, begun_unstored}
-use Rattle.fuse.specs.Merging.{FuseData}
 use Rattle.invalidate.specs.Generations.{gen_raise_of}
 use Rattle.delegate_ops.specs.declared.stage.Change.TheVariants as change
 use Rattle.delegate_ops.specs.Changing.{from_of, to_of, raised_at}
-use Rattle.delegate_ops.specs.InnerAgents.{IsChangeOf, number_of, kept_raised, merging_stage, merged_stage, raised_stage}
+use Rattle.delegate_ops.specs.InnerAgents.{IsChangeOf, kept_raised, passing_stage, raised_stage}
 use Rattle.delegate_ops.proofs.AgentLemmas.{at_stage}
 use Rattle.core_machine.proofs.ListLemmas.{one}
 use Rattle.core_machine.proofs.StampLemmas.{rises_one}
@@ -39,7 +32,11 @@ use Rattle.core_machine.proofs.AddressLemmas.{lock_by_region, region_at}
 use Rattle.core_machine.proofs.StepLemmas.{list_of, added_to, map_next, opened_with}
 use Rattle.core_machine.proofs.LockActs.{ActKeeps}
 use Rattle.core_machine.proofs.LoadActs.{counts_from}
-use Rattle.delegate_ops.specs.Script.{entries_of}
+use Rattle.invalidate.specs.Barrier.{begun}
+use Rattle.delegate_ops.specs.Script.{change_entry}
+use Rattle.delegate_ops.specs.InnerEntries.{entries_before}
+use Rattle.core_machine.specs.InnerAgentCaller.{done_after}
+use Rattle.core_machine.proofs.SettleLemmas.{Settles, settles_barrier}
 
 -- ---- what a holder sees after its raise
 
@@ -150,6 +147,7 @@ pub record Raises (s : Scene) (c : ℕ) (a : AgentData) (t : Task) (ch : Change)
   pub map : (n : ℕ) → map_next s o n ≡ map_in s n
   pub keeps : (y : Size) → is_due_at next y ≡ true → open_at a.geometry next (Some t) ≡ open_at a.geometry (stage.Raising ch z k) (Some t)
   pub before : (y : Size) → y ≢ z → is_due_at (stage.Raising ch z k) y ≡ true → open_at a.geometry next (Some t) ≡ open_at a.geometry (stage.Raising ch z k) (Some t)
+  pub marks : MarksGo s a t (stage.Raising ch z k) next (raised_words s a t z k) o
   pub entry : IfSome o (IsOwn s c a t)
   pub no_change : (y : Size) (region : ℕ) → added_to a.geometry y region o ≡ 0
   pub opened : open_at a.geometry next (Some t) ≡ opened_with o (open_at a.geometry (stage.Raising ch z k) (Some t))
@@ -208,11 +206,12 @@ raise_goes {s = s} {a = a} {t = t} ch z k next o acting raises =
       writes = writes_raise acting z k;
       block = λ m other same. other (sym (lock_by_region a.geometry.setup z (address_of t / size_bytes z) (address_of t) refl) ∙ same);
       no_lock = refl;
-      idle = refl;
+      no_duty_word = refl;
       rises = λ y region within.
           rises_one s.words (gen_place_of a.geometry z (address_of t)) (place_of a.geometry (Generation y region)) (generation_in z k.generations + 1) (generation_below acting z)
           (let old = (seen_of acting).generations z in omega (arith, old));
       tracks = raised_tracks ch z k next o acting raises;
+      marks = raises.marks;
       entry = raises.entry;
       words = raises.words;
       opened = raises.opened;
@@ -236,6 +235,7 @@ raise_quietly {s = s} {a = a} {t = t} ch z k next acting owes made =
       map = λ n. refl;
       keeps = λ y due. refl;
       before = λ y apart due. refl;
+      marks = marks_stay acting (stage.Raising ch next (kept_raised z k)) _ _ (writes_raise acting z k) refl (λ p. refl) refl;
       entry = tt;
       no_change = λ y region. refl;
       opened = refl;
@@ -246,45 +246,6 @@ raise_quietly {s = s} {a = a} {t = t} ch z k next acting owes made =
 
 -- ---- the third raise
 
--- the stage after the third raise of a change, which stays inside
-pub record Settles (g : GeometryData) (m : ℕ → Gpi) (words : List ℕ) (c k : ℕ) (t : Task) (ch : Change) (kept : Kept) (next : Stage) : Type 0 where
-  pub stays : is_inside next ≡ true
-  pub closes : open_at g next (Some t) ≡ []
-  pub none_due : (y : Size) → is_due_at next y ≡ false
-  pub sees : Facts g.setup m (granule_of_task g t) (Keeps kept.word) → to_of t ch ≡ m (granule_of_task g t) → ((y : Size) → SeesGeneration g words t (kept_raised size.FiveTwelve kept).generations y) → SeesAt g m words t next
-  pub front : entries_at g c k next (Some t) ≡ entries_at g c k (stage.Raising ch size.FiveTwelve kept) (Some t) ++ entry.Settled c k (granule_of_task g t) ∷ []
-  pub coming : (given : Answer) → coming_at next ≡ given ∷ [] → given ≡ answer.Done (kept_raised size.FiveTwelve kept).generations
-
-settle_first : (g : GeometryData) (m : ℕ → Gpi) (words : List ℕ) (c k : ℕ) (t : Task) (kept : Kept) → IsChangeOf t change.First → Settles g m words c k t change.First kept (stage.Changing change.Last (kept_raised size.FiveTwelve kept))
-settle_first g m words c k (task.Undelegate pa source) kept is = record {
-  stays = refl;
-  closes = refl;
-  none_due = λ y. refl;
-  sees = λ known gives generations. record { known = known; gives = gives; generations = generations };
-  front = refl;
-  coming = λ given e. absurd cc;
-}
-settle_first g m words c k t kept is = absurd is
-
--- merging begins, or is over at once
-all_front : (g : GeometryData) (c k : ℕ) (t : Task) (kept : Kept) → IsChangeOf t change.Last
-    → entries_of g c k t (answer.Done (kept_raised size.FiveTwelve kept).generations) ≡ entries_at g c k (stage.Raising change.Last size.FiveTwelve kept) (Some t) ++ entry.Settled c k (granule_of_task g t) ∷ []
-all_front g c k (task.Delegate pa source) kept is = refl
-all_front g c k (task.Undelegate pa source) kept is = refl
-all_front g c k t kept is = absurd is
-
-settle_last : (g : GeometryData) (m : ℕ → Gpi) (words : List ℕ) (c k : ℕ) (t : Task) (kept : Kept) (f : FuseData) (o : Option Act) → IsChangeOf t change.Last → Facts g.setup m (granule_of_task g t) (Merges f.gpi f.step)
-    → Settles g m words c k t change.Last kept (merging_stage o f (kept_raised size.FiveTwelve kept).generations)
-settle_last g m words c k t kept f None is known =
-    record { stays = refl; closes = refl; none_due = λ y. refl; sees = λ kept gives generations. record { known = tt; gives = tt; generations = tt }; front = all_front g c k t kept is; coming = λ given e. cc }
-settle_last g m words c k t kept f (Some next) is known =
-    record { stays = refl; closes = refl; none_due = λ y. refl; sees = λ kept gives generations. record { known = known; gives = tt; generations = tt }; front = all_front g c k t kept is; coming = λ given e. cc }
-
-settle_none : (g : GeometryData) (m : ℕ → Gpi) (words : List ℕ) (c k : ℕ) (t : Task) (kept : Kept) → IsChangeOf t change.Last
-    → Settles g m words c k t change.Last kept (stage.Releasing (answer.Done (kept_raised size.FiveTwelve kept).generations))
-settle_none g m words c k t kept is =
-    record { stays = refl; closes = refl; none_due = λ y. refl; sees = λ kept gives generations. record { known = tt; gives = tt; generations = tt }; front = all_front g c k t kept is; coming = λ given e. cc }
-
 -- of each size: raised before, or by this raise
 settled_count : (g : GeometryData) (t : Task) (a : AgentData) (ch : Change) (k : Kept) (y : Size) (count : ℕ) → a.geometry ≡ g → a.stage ≡ stage.Raising ch size.FiveTwelve k → task_of a ≡ Some t
     → generation_in y k.generations + one (is_due y (region_of (granule_bytes g.setup) y (granule_of_task g t)) (caller.Agent a)) ≡ count → generation_in y (kept_raised size.FiveTwelve k).generations ≡ count
@@ -292,12 +253,17 @@ settled_count g t a ch k size.Two count same at under_way seen = let sum = rw at
 settled_count g t a ch k size.ThirtyTwo count same at under_way seen = let sum = rw at at seen in omega (arith, sum)
 settled_count g t a ch k size.FiveTwelve count same at under_way seen = let sum = rw (at, under_way, same, eq-eqb _ _ refl) at seen in omega (arith, sum)
 
+-- the answer that is to come with a change complete
+done_is : (ch : Change) (k : Generations) (given : Answer) → done_after ch k ≡ given ∷ [] → given ≡ answer.Done k
+done_is change.First k given is = absurd cc
+done_is change.Last k given is = cc
+
 raise_last : {s : Scene} {c : ℕ} {a : AgentData} {t : Task} (ch : Change) (k : Kept) (next : Stage) (acting : Acting s c a t (stage.Raising ch size.FiveTwelve k))
-    → Settles a.geometry (map_in s) (raised_words s a t size.FiveTwelve k) c (length a.answers) t ch k next
-    → AreWords a.geometry (map_in s) (apart_by a.geometry.setup (holders_of (set s.callers c (caller.Agent (goes_to (at_stage a (stage.Raising ch size.FiveTwelve k)) next))))) (raised_words s a t size.FiveTwelve k)
+    → Settles s c a t (stage.Raising ch size.FiveTwelve k) ch (kept_raised size.FiveTwelve k) (raised_words s a t size.FiveTwelve k) next
+    → MarksGo s a t (stage.Raising ch size.FiveTwelve k) next (raised_words s a t size.FiveTwelve k) (Some (entry.Settled c (length a.answers) (granule_of_task a.geometry t)))
     → IsMade a.geometry (caller.Agent (goes_to (at_stage a (stage.Raising ch size.FiveTwelve k)) next))
     → HoldsIn a.geometry (scene_after s c (caller.Agent (goes_to (at_stage a (stage.Raising ch size.FiveTwelve k)) next)) (raised_words s a t size.FiveTwelve k) (entry.Settled c (length a.answers) (granule_of_task a.geometry t) ∷ []))
-raise_last {s = s} {c = c} {a = a} {t = t} ch k next acting settles words made =
+raise_last {s = s} {c = c} {a = a} {t = t} ch k next acting settles marks made =
     let g = a.geometry in
     let me = caller.Agent (at_stage a (stage.Raising ch size.FiveTwelve k)) in
     let granule = granule_of_task g t in
@@ -307,82 +273,23 @@ raise_last {s = s} {c = c} {a = a} {t = t} ch k next acting settles words made =
     (record {
       stays = settles.stays;
       made = made;
-      words = words;
+      words = settles.words;
       owes = owes_last ch k next settles.none_due;
       map = λ n. refl;
       keeps = λ y due. absurd (let both : true ≡ false = sym due ∙ settles.none_due y in cc);
       before = λ y apart due. absurd (let both : true ≡ false = sym due ∙ sym (last_others y apart) in cc);
+      marks = marks;
       entry = record { caller = refl; call = refl; granule = refl; allowed = open_here (state_in s) s.callers c granule (from_of t ch) me acting.at acting.stands.opened (closed_of acting refl) (rw acting.under_way refl) };
       no_change = λ y region. refl;
       opened = settles.closes ∙ rw (eq-eqb granule granule refl) refl;
-      sees = settles.sees sees.known sees.gives (sees_raised ch size.FiveTwelve k acting);
+      sees = settles.sees;
       coming = λ given is.
-          subst (λ (x : Answer). IsCounted g c (length a.answers) t x (s.history ++ e ∷ [])) (sym (settles.coming given is))
+          subst (λ (x : Answer). IsCounted g c (length a.answers) t x (s.history ++ e ∷ [])) (sym (done_is ch (kept_raised size.FiveTwelve k).generations given (settles.coming given is)))
           (done_counted g c (length a.answers) t (kept_raised size.FiveTwelve k).generations s.history
           (counts_from g.setup.first (granule_bytes g.setup) granule s.history (kept_raised size.FiveTwelve k).generations
           (λ y. settled_count g t (at_stage a (stage.Raising ch size.FiveTwelve k)) ch k y _ refl refl acting.under_way (counts_of acting refl k.generations y (sees.generations y)))));
-      front = settles.front;
+      front = settles.front ∙ sym (append_assoc (entries_before g c (length a.answers) t ch) (change_entry g c (length a.answers) t ch ∷ []) (e ∷ []));
     })
-
--- ---- after the last raise
-
--- merging around a word with these sixteen GPIs, if they are equal
-abbrev fuse_with : GeometryData → ℕ → Option Gpi → FuseData
-fuse_with g index o = record {
-  first = place_of g (Level1 0);
-  own = index;
-  two = words_of g.setup size.Two;
-  max = g.setup.max;
-  gpi = fuse.gpi_or_none o;
-  step = begun g.setup.max o;
-}
-
--- the words by the step of merging that follows
-merging_words : {s : Scene} {c : ℕ} {a : AgentData} {t : Task} (k : Kept) (step : Step) (next : Stage) (acting : Acting s c a t (stage.Raising change.Last size.FiveTwelve k)) → step_of (known_at next) ≡ step
-    → AreWords a.geometry (map_in s) (apart_by a.geometry.setup (set (holders_of s.callers) c (record { granule = granule_of_task a.geometry t; step = step }))) s.words
-    → AreWords a.geometry (map_in s) (apart_by a.geometry.setup (holders_of (set s.callers c (caller.Agent (goes_to (at_stage a (stage.Raising change.Last size.FiveTwelve k)) next))))) (raised_words s a t size.FiveTwelve k)
-merging_words {s = s} {c = c} {a = a} {t = t} k step next acting same are =
-    tables_after acting next (map_in s) (raised_words s a t size.FiveTwelve k)
-    (subst (λ (x : Step). AreWords a.geometry (map_in s) (apart_by a.geometry.setup (set (holders_of s.callers) c (record { granule = granule_of_task a.geometry t; step = x }))) (raised_words s a t size.FiveTwelve k)) (sym same)
-    (words_left (writes_raise acting size.FiveTwelve k) (map_in s) _ refl acting.stands.shape.geometry are))
-
--- where merging is over its tables are whole
-pub merging_step_of : (f : FuseData) (k : Generations) (o : Option Act) → fuse.next_of f ≡ o → step_of (known_at (merging_stage o f k)) ≡ merging_step f.step
-merging_step_of f k (Some next) there = refl
-merging_step_of f k None over = over_step f.first f.own f.two f.gpi f.step over
-  where
-    over_step : (first own two : ℕ) (v : Gpi) (step : Fusing) → fuse.act_at first own two v step ≡ None → Whole ≡ merging_step step
-    over_step first own two v (Testing z j) over = absurd cc
-    over_step first own two v (Storing z j) over = absurd cc
-    over_step first own two v (Ended o) over = refl
-
--- the last raise: the word has sixteen equal GPIs, or there is nothing to merge
-last_raise : {s : Scene} {c : ℕ} {a : AgentData} {t : Task} (k : Kept) (index : ℕ) (o : Option Gpi) (acting : Acting s c a t (stage.Raising change.Last size.FiveTwelve k)) → IsChangeOf t change.Last → equal_gpi k.word ≡ o
-    → IsMade a.geometry (caller.Agent (goes_to (at_stage a (stage.Raising change.Last size.FiveTwelve k)) (merged_stage (fuse_with a.geometry index o) (kept_raised size.FiveTwelve k).generations)))
-    → HoldsIn a.geometry (scene_after s c (caller.Agent (goes_to (at_stage a (stage.Raising change.Last size.FiveTwelve k)) (merged_stage (fuse_with a.geometry index o) (kept_raised size.FiveTwelve k).generations)))
-    (raised_words s a t size.FiveTwelve k) (entry.Settled c (length a.answers) (granule_of_task a.geometry t) ∷ []))
-last_raise {s = s} {c = c} {a = a} {t = t} k index None acting is equal made =
-    let g = a.geometry in
-    let granule = granule_of_task g t in
-    let sees = seen_of acting in
-    let none : largest_block g.setup (map_in s) None (granule / 16) ≡ None =
-    finds_largest g.setup (map_in s) granule None (inr (inl (λ v same. equal_none k.word equal v (sees.known ∙ same)))) in
-    raise_last change.Last k (stage.Releasing (answer.Done (kept_raised size.FiveTwelve k).generations)) acting (settle_none g (map_in s) _ c (length a.answers) t k is)
-    (merging_words k Whole (stage.Releasing (answer.Done (kept_raised size.FiveTwelve k).generations)) acting refl
-    (no_merge g (map_in s) (holders_of s.callers) c granule s.words (holder_at acting) (alone_there acting refl) none acting.stands.tables.level1))
-    made
-last_raise {s = s} {c = c} {a = a} {t = t} k index (Some v) acting is equal made =
-    let g = a.geometry in
-    let granule = granule_of_task g t in
-    let f = fuse_with g index (Some v) in
-    let gens = (kept_raised size.FiveTwelve k).generations in
-    let sees = seen_of acting in
-    let known : Facts g.setup (map_in s) granule (Merges v (begun g.setup.max (Some v))) =
-    merges g.setup (map_in s) granule v (subst (λ (w : ℕ). Facts g.setup (map_in s) granule (Keeps w)) (equal_found k.word v equal) sees.known) in
-    raise_last change.Last k (merged_stage f gens) acting (settle_last g (map_in s) _ c (length a.answers) t k f (fuse.next_of f) is known)
-    (merging_words k (merging_step f.step) (merged_stage f gens) acting (merging_step_of f gens (fuse.next_of f) refl)
-    (load_words g (map_in s) (holders_of s.callers) c granule v f.step s.words (holder_at acting) (alone_there acting refl) (begun_unstored g.setup.max (Some v)) known.1 acting.stands.tables.level1))
-    made
 
 -- ---- all raises
 
@@ -391,11 +298,24 @@ raise_at : {s : Scene} {c : ℕ} {a : AgentData} {t : Task} (ch : Change) (z : S
     (made_at a.geometry c (length a.answers) (stage.Raising ch z k) (Some t) 0))
 raise_at ch size.Two k acting is = raise_quietly ch size.Two k size.ThirtyTwo acting (owes_two ch k _) (acting.made 0)
 raise_at ch size.ThirtyTwo k acting is = raise_quietly ch size.ThirtyTwo k size.FiveTwelve acting (owes_thirty_two ch k _) (acting.made 0)
-raise_at {s = s} {c = c} {a = a} {t = t} change.First size.FiveTwelve k acting is =
-    let next = stage.Changing change.Last (kept_raised size.FiveTwelve k) in
-    raise_last change.First k next acting (settle_first a.geometry (map_in s) _ c (length a.answers) t k is) (tables_stay acting refl next refl (writes_raise acting size.FiveTwelve k) refl) (acting.made 0)
-raise_at {s = s} {c = c} {a = a} {t = t} change.Last size.FiveTwelve k acting is =
-    last_raise k (number_of (l1_index_of a.geometry (address_of t))) (equal_gpi k.word) acting is refl (acting.made 0)
+raise_at {s = s} {c = c} {a = a} {t = t} ch size.FiveTwelve k acting is =
+    let g = a.geometry in
+    let sees = seen_of acting in
+    raise_last ch k (passing_stage g t ch (begun g.cpus) (kept_raised size.FiveTwelve k)) acting
+    (settles_barrier (begun g.cpus) (record {
+      acting = acting;
+      inside = refl;
+      apart = refl;
+      change = is;
+      writes = writes_raise acting size.FiveTwelve k;
+      plain = refl;
+      known = sees.known;
+      gives = sees.gives;
+      generations = sees_raised ch size.FiveTwelve k acting;
+    }))
+    (barrier_marks (raised_passes g s t ch size.FiveTwelve k acting.stands is) (raised_words s a t size.FiveTwelve k) (map_in s) _ (λ n. refl) (λ n sp. seen_more n sp s.history _)
+    (λ n sp. lines_left (writes_raise acting size.FiveTwelve k) refl acting.stands.shape.geometry n sp) (kept_raised size.FiveTwelve k))
+    (acting.made 0)
 
 change_in : (g : GeometryData) (t : Task) (ch : Change) (z : Size) (k : Kept) → IsStage g (stage.Raising ch z k) (Some t) → IsChangeOf t ch
 change_in g t ch size.Two k is = is.0

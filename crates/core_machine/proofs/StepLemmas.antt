@@ -23,7 +23,7 @@ use Rattle.core_machine.proofs.LockLemmas.{locks_keep}
 use Rattle.core_machine.proofs.AddressLemmas.{lock_of}
 use Rattle.core_machine.proofs.CallerLemmas.{held_once, made_at_place, others_closed, placed_at}
 use Rattle.core_machine.proofs.OpenedLemmas.{opened_after, opened_stays, opened_changes}
-use Rattle.core_machine.proofs.WordLemmas.{Writes, IsApart, block_left, plain_apart, is_generation, is_level1, is_idle, is_line, idle_duty, generations_left, words_left, lines_left}
+use Rattle.core_machine.proofs.WordLemmas.{Writes, IsApart, block_left, plain_apart, is_generation, is_level1, is_duty, is_line, other_word, generations_left, words_left, lines_left}
 use Rattle.core_machine.specs.InnerCallers.{HasLoaded, HasOwnStamps, unraised_by, unpassed_by, uncleaned_by, decided_by, touching_by, walks_by}
 use Rattle.core_machine.specs.InnerWalks.{In, WalkHolds, generation_around}
 use Rattle.walk_cache.specs.declared.walk.Walk.{Walk}
@@ -75,10 +75,10 @@ pub record MindsDuty (g : GeometryData) (me x : Caller) (n : Option WordName) (a
   pub word : (p : ℕ) → number_by x ≡ Some p → slice_index after (place_of g (Duty p)) ≡ duty_by x
 
 -- one that is no processor writes none
-pub no_duty : {g : GeometryData} {me x : Caller} {n : Option WordName} {after : List ℕ} → number_by me ≡ None → number_by x ≡ None → is_idle n ≡ false → MindsDuty g me x n after
-no_duty {n = n} before none idle = record {
+pub no_duty : {g : GeometryData} {me x : Caller} {n : Option WordName} {after : List ℕ} → number_by me ≡ None → number_by x ≡ None → is_duty n ≡ false → MindsDuty g me x n after
+no_duty {n = n} before none unlike = record {
   number = none ∙ sym before;
-  own = λ p same. absurd (idle_duty n p idle same);
+  own = λ p same. absurd (other_word n p unlike same);
   word = λ p is. absurd (let both : None ≡ Some p = sym none ∙ is in cc);
 }
 

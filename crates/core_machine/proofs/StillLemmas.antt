@@ -1,5 +1,5 @@
 -- Turns that change nothing: those of a caller without a next act, and a wait after a wait.
-use Rattle.std.proofs.Common.{◌≡◌, ◌≢◌, ℕ, zero, suc, ◌+◌, ◌*◌, ◌/◌, ◌%◌, ◌^◌, ◌<◌, ◌-◌, ◌∷◌, [], List, Bool, true, not, eqb, Option, Some, None, length, get_or, set, replicate, refl, sym, ap, ◌∙◌, subst, arith, inl, inr}
+use Rattle.std.proofs.Common.{◌≡◌, ◌≢◌, ℕ, zero, suc, ◌+◌, ◌*◌, ◌/◌, ◌%◌, ◌^◌, ◌<◌, ◌-◌, ◌∷◌, [], List, Bool, true, not, eqb, ltb, Option, Some, None, length, get_or, set, replicate, refl, sym, ap, ◌∙◌, subst, arith, inl, inr}
 use Rattle.std.specs.Prelude.{slice_get, slice_index}
 use Rattle.std.specs.Int.{bit_at}
 use Rattle.std.specs.Int.Bits.{bit_and, bit_or, or_add_and}
@@ -9,10 +9,12 @@ use Rattle.std.proofs.lemmas.Bool.{cases_Bool, eq-eqb}
 use Rattle.std.proofs.lemmas.Option.{slice_get-get_or}
 use Rattle.std.proofs.lemmas.List.{set-get_or}
 use Rattle.std.proofs.lemmas.Nat.Bits.{and_pow, bit_at-lt}
-use Rattle.core_machine.proofs.Names.{GeometryData, Act, answer_of, after_act, take_act, Task, Stage, lock_bit_of, AgentData, task_of, next_of, took_at, Caller, caller_next, caller_took, MachineData, after_turn, after_turns}
+use Rattle.core_machine.proofs.Names.{GeometryData, Duty, place_of, Act, answer_of, after_act, take_act, Task, Stage, lock_bit_of, AgentData, task_of, next_of, took_at, Caller, caller_next, caller_took, MachineData, after_turn, after_turns}
 use Rattle.core_machine.proofs.Names.stage
 use Rattle.core_machine.proofs.Names.caller
 use Rattle.bit_locks.specs.Locks.{bit_with}
+use Rattle.invalidate.specs.Barrier.{BarrierData, next_load}
+use Rattle.invalidate.specs.Duty.{barrier_load}
 use Rattle.delegate_ops.specs.InnerAgents.{act_at, is_held, waits_at, took_under_way}
 use Rattle.core_machine.specs.InnerCallers.{caller_waits}
 use Rattle.core_machine.proofs.MachineLemmas.{after_turns-append, replicate_more, range_front}
@@ -37,16 +39,20 @@ take_again words n held =
 
 -- ---- an agent that waits
 
--- an act after which an agent has waited is a lock that was held
+-- an act after which an agent has waited is a lock that was held, or a load of a duty word that wasn't 0
 record Waits (a : AgentData) (t : Task) (s : Stage) (old : ℕ) : Type 0 where
-  locking : s ≡ stage.Locking
-  held : is_held a.geometry t stage.Locking old ≡ true
+  held : is_held a.geometry t s old ≡ true
   after : took_at a t s old ≡ waits_at a
 
 waits_so : (a : AgentData) (t : Task) (s : Stage) (old : ℕ) → (took_at a t s old).waited ≡ true → Waits a t s old
 waits_so a t stage.Locking old waited =
     elim (cases_Bool (is_held a.geometry t stage.Locking old)) [
-      | inl held ↦ record { locking = refl; held = held; after = rw held refl }
+      | inl held ↦ record { held = held; after = rw held refl }
+      | inr free ↦ absurd (let never = rw free at waited in cc)
+    ]
+waits_so a t (stage.Passing ch d k) old waited =
+    elim (cases_Bool (is_held a.geometry t (stage.Passing ch d k) old)) [
+      | inl held ↦ record { held = held; after = rw held refl }
       | inr free ↦ absurd (let never = rw free at waited in cc)
     ]
 waits_so a t (stage.Releasing answer) old waited = absurd cc
@@ -66,18 +72,23 @@ caller_again (caller.Cpu q) old waited again = absurd cc
 
 -- ---- the words after it
 
-locked_words : (g : GeometryData) (u : Task) (s : Stage) (t : Act) (words : List ℕ) → act_at g s u ≡ Some t → s ≡ stage.Locking
-    → is_held g u stage.Locking (answer_of t words) ≡ true → after_act t words ≡ words
-locked_words g u s t words next locking held =
-    let same : take_act (lock_bit_of g u) ≡ t = (let both = sym (ap (λ (x : Stage). act_at g x u) locking) ∙ next in cc) in
+locked_words : (g : GeometryData) (u : Task) (s : Stage) (t : Act) (words : List ℕ) → act_at g s u ≡ Some t → is_held g u s (answer_of t words) ≡ true → after_act t words ≡ words
+locked_words g u stage.Locking t words next held =
+    let same : take_act (lock_bit_of g u) ≡ t = cc in
     subst (λ (x : Act). after_act x words ≡ words) same
     (take_again words _ (subst (λ (x : Act). is_held g u stage.Locking (answer_of x words) ≡ true) (sym same) held))
+locked_words g u (stage.Passing ch d k) t words next held = subst (λ (x : Act). after_act x words ≡ words) (loads g d t next) (set-get_or words (place_of g (Duty d.passed)) 0)
+  where
+    loads : (g : GeometryData) (d : BarrierData) (t : Act) → next_load g d ≡ Some t → barrier_load g d.passed ≡ t
+    loads g d t next =
+        elim (cases_Bool (ltb d.passed d.cpus)) [ inl more ↦ (let both : Some (barrier_load g d.passed) ≡ Some t = rw more at next in cc) | inr over ↦ absurd (let none : None ≡ Some t = rw over at next in cc) ]
+locked_words g u s t words next held = absurd cc
 
 agent_words : (a : AgentData) (o : Option Task) (t : Act) (words : List ℕ) → task_of a ≡ o → next_of a ≡ Some t → (took_under_way a o (answer_of t words)).waited ≡ true → after_act t words ≡ words
 agent_words a None t words under_way next waited = absurd (let never = rw under_way at next in cc)
 agent_words a (Some u) t words under_way next waited =
     let so = waits_so a u a.stage (answer_of t words) waited in
-    locked_words a.geometry u a.stage t words (rw under_way at next) so.locking so.held
+    locked_words a.geometry u a.stage t words (rw under_way at next) so.held
 
 caller_words : (x : Caller) (t : Act) (words : List ℕ) → caller_next x ≡ Some t → caller_waits (caller_took x (answer_of t words)) ≡ true → after_act t words ≡ words
 caller_words (caller.Agent a) t words next waited = agent_words a (task_of a) t words refl next waited

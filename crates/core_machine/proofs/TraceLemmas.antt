@@ -34,7 +34,7 @@ use Rattle.processor.proofs.ScriptLemmas.{fresh_walked as cpu_fresh_walked, step
 use Rattle.gpt_descriptors.proofs.PlaceLemmas.{place_distinct}
 use Rattle.core_machine.proofs.CpuActs.{cpu_accessing, duty_below, duty_is, how_acts}
 use Rattle.core_machine.specs.InnerPlay.{played_trace}
-use Rattle.core_machine.proofs.WordLemmas.{is_idle, is_lock, locks_left, writes_one}
+use Rattle.core_machine.proofs.WordLemmas.{is_duty, is_lock, locks_left, writes_one}
 use Rattle.core_machine.proofs.CallerLemmas.{agent_has, made_at_place}
 
 -- ---- each caller's events
@@ -357,8 +357,12 @@ duty_counts g s c (caller.Agent a) t p stands at next low =
     let acting = way.2 in
     let on = act_word a.geometry way.1 a.stage t acting.stands.shape.geometry acting.acts (subst (IsStage a.geometry a.stage) acting.under_way acting.is.stage) way.3 in
     subst (λ (k : GeometryData). CountsDuty k p s.words t) way.0
-    (other_duty a.geometry s.words on.name p t on.named (subst (λ (k : GeometryData). p < k.cpus) (sym way.0) low)
-    (λ same. let both : true ≡ false = ap (λ (n : WordName). is_idle (Some n)) (sym same) ∙ on.idle in cc) on.place)
+    (elim on.duty [
+      | inl apart ↦
+          other_duty a.geometry s.words on.name p t on.named (subst (λ (k : GeometryData). p < k.cpus) (sym way.0) low)
+          (λ same. let both : true ≡ false = ap (λ (n : WordName). is_duty (Some n)) (sym same) ∙ apart in cc) on.place
+      | inr load ↦ subst (λ (x : Act). CountsDuty a.geometry p s.words x) (sym load) (ap (λ (words : List ℕ). duty_word a.geometry p words + 0) (set-get_or s.words (place_of a.geometry on.name) 0))
+    ])
 duty_counts g s c (caller.Cpu q) t p stands at next low =
     let way = cpu_accessing g s c q t stands at next in
     let acting = way.acting in

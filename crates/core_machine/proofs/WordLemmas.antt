@@ -42,23 +42,18 @@ abbrev pub is_level1 : Option WordName → Bool
 is_level1 (Some (Level1 i)) = true
 is_level1 n = false
 
--- lines
+-- lines, of which agents clean those of their granules
 abbrev pub is_line : Option WordName → Bool
 is_line (Some (Line i)) = true
 is_line n = false
 
--- duty words and lines, which no agent writes
-abbrev pub is_idle : Option WordName → Bool
-is_idle (Some (Duty cpu)) = true
-is_idle (Some (Line i)) = true
-is_idle n = false
+-- duty words, which no agent writes
+abbrev pub is_duty : Option WordName → Bool
+is_duty (Some (Duty cpu)) = true
+is_duty n = false
 
-pub idle_line : (n : Option WordName) → is_idle n ≡ false → is_line n ≡ false
-idle_line (Some (Line i)) unlike = absurd cc
-idle_line n unlike = refl
-
-pub idle_duty : (n : Option WordName) (p : ℕ) → is_idle n ≡ false → n ≡ Some (Duty p) → ⊥
-idle_duty n p unlike same = let both : true ≡ false = ap is_idle (sym same) ∙ unlike in cc
+pub other_word : (n : Option WordName) (p : ℕ) → is_duty n ≡ false → n ≡ Some (Duty p) → ⊥
+other_word n p unlike same = let both : true ≡ false = ap is_duty (sym same) ∙ unlike in cc
 
 differs : (p : Option WordName → Bool) (n m : Option WordName) → p n ≡ false → p m ≡ true → n ≢ m
 differs p n m unlike is same = let both : true ≡ false = sym is ∙ ap p (sym same) ∙ unlike in cc

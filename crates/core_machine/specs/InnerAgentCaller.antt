@@ -1,5 +1,5 @@
 -- An agent as a caller: what each fact of the core reads of it.
-use Rattle.std.specs.Prelude.{◌≡◌, ℕ, ◌-◌, Bool, true, false, not, ◌&&◌, ◌==◌, List, [], ◌∷◌, ◌++◌, length, slice_index, Option, Some, None, if◌then◌else◌}
+use Rattle.std.specs.Prelude.{◌≡◌, ℕ, ◌-◌, Bool, true, false, not, ◌&&◌, ◌==◌, nat_lt, List, [], ◌∷◌, ◌++◌, length, slice_index, Option, Some, None, if◌then◌else◌}
 use Rattle.gpi_values.specs.declared.gpi.Gpi.{Gpi}
 use Rattle.gpt_descriptors.specs.declared.size.Size.{Size}
 use Rattle.gpt_descriptors.specs.declared.size.Size.TheVariants as size
@@ -17,6 +17,9 @@ use Rattle.history.specs.declared.entry.Entry.{Entry}
 use Rattle.history.specs.Legality.{needed}
 use Rattle.history.specs.Calls.{answered_entries}
 use Rattle.history.specs.Counts.{region_of}
+use Rattle.delegate_ops.specs.declared.stage.Change.{Change}
+use Rattle.delegate_ops.specs.declared.stage.Change.TheVariants as change
+use Rattle.delegate_ops.specs.declared.stage.Line.TheVariants as line
 use Rattle.delegate_ops.specs.InnerStages.{Stage}
 use Rattle.delegate_ops.specs.InnerStages as stage
 use Rattle.delegate_ops.specs.Deciding.{address_of, generation_in}
@@ -47,8 +50,15 @@ agent_fresh g a = (a ≡ fresh g a.tasks) × IsAgent a
 abbrev pub agent_left : AgentData → ℕ
 agent_left a = length a.tasks - length a.answers
 
+-- the answer of a call that has completed a change: where that is the last one it is done
+abbrev pub done_after : Change → Generations → List Answer
+done_after change.First k = []
+done_after change.Last k = answer.Done k ∷ []
+
 -- the answer that the call under way is to have, where it is known
 abbrev pub coming_at : Stage → List Answer
+coming_at (stage.Passing c d k) = done_after c k.generations
+coming_at (stage.Cleaning c l k) = done_after c k.generations
 coming_at (stage.Merging f k) = answer.Done k ∷ []
 coming_at (stage.Releasing given) = given ∷ []
 coming_at s = []
@@ -109,17 +119,22 @@ unraised_at g y s o = if is_due_at s y then open_at g s o else []
 abbrev pub agent_unraised : Size → AgentData → List (ℕ × Gpi)
 agent_unraised y a = unraised_at a.geometry y a.stage (task_of a)
 
--- where it hasn't yet passed processor p in the barrier after that change
+-- the pair, where the barrier after its change has yet to pass processor p
 abbrev pub unpassed_at : GeometryData → ℕ → Stage → Option Task → List (ℕ × Gpi)
 unpassed_at g p (stage.Raising c z k) (Some t) = (granule_of_task g t, from_of t c) ∷ []
+unpassed_at g p (stage.Passing c d k) (Some t) =
+    if nat_lt p d.passed then [] else (granule_of_task g t, from_of t c) ∷ []
 unpassed_at g p s o = []
 
 abbrev pub agent_unpassed : ℕ → AgentData → List (ℕ × Gpi)
 agent_unpassed p a = unpassed_at a.geometry p a.stage (task_of a)
 
--- where it hasn't yet cleaned the lines of the former GPI
+-- the pair, where the line of its granule and the space that the former GPI permits isn't cleaned yet
 abbrev pub uncleaned_at : GeometryData → Stage → Option Task → List (ℕ × Gpi)
 uncleaned_at g (stage.Raising c z k) (Some t) = (granule_of_task g t, from_of t c) ∷ []
+uncleaned_at g (stage.Passing c d k) (Some t) = (granule_of_task g t, from_of t c) ∷ []
+uncleaned_at g (stage.Cleaning c line.Former k) (Some t) =
+    (granule_of_task g t, from_of t c) ∷ []
 uncleaned_at g s o = []
 
 abbrev pub agent_uncleaned : AgentData → List (ℕ × Gpi)
@@ -138,8 +153,11 @@ agent_owes y region a = is_due_at a.stage y && is_around a.geometry y region (ta
 abbrev pub known_at : Stage → facts.Stage
 known_at (stage.Reading z k) = facts.Looked k.word
 known_at (stage.Splitting z d k) = facts.Splits z d.gpi d.made
+known_at (stage.Preparing k) = facts.Keeps k.word
 known_at (stage.Changing c k) = facts.Keeps k.word
 known_at (stage.Raising c z k) = facts.Keeps k.word
+known_at (stage.Passing c d k) = facts.Keeps k.word
+known_at (stage.Cleaning c l k) = facts.Keeps k.word
 known_at (stage.Merging f k) = facts.Merges f.gpi f.step
 known_at s = facts.Idle
 
@@ -161,8 +179,11 @@ agent_holder a = record {
 abbrev pub GivesAt : Task → Stage → Gpi → Type 0
 GivesAt t (stage.Reading z k) v = needed t ≡ Some v
 GivesAt t (stage.Splitting z d k) v = needed t ≡ Some v
+GivesAt t (stage.Preparing k) v = from_of t change.Last ≡ v
 GivesAt t (stage.Changing c k) v = from_of t c ≡ v
 GivesAt t (stage.Raising c z k) v = to_of t c ≡ v
+GivesAt t (stage.Passing c d k) v = to_of t c ≡ v
+GivesAt t (stage.Cleaning c l k) v = to_of t c ≡ v
 GivesAt t s v = Unit {0}
 
 -- the generation of this size around it is the kept one
@@ -175,9 +196,14 @@ abbrev pub SeesGenerations : GeometryData → List ℕ → Task → Stage → Ty
 SeesGenerations g words t (stage.Reading z k) =
     (y : Size) → comes_before y z ≡ true → SeesGeneration g words t k.generations y
 SeesGenerations g words t (stage.Splitting z d k) = (y : Size) → SeesGeneration g words t k y
+SeesGenerations g words t (stage.Preparing k) = (y : Size) → SeesGeneration g words t k.generations y
 SeesGenerations g words t (stage.Changing c k) =
     (y : Size) → SeesGeneration g words t k.generations y
 SeesGenerations g words t (stage.Raising c z k) =
+    (y : Size) → SeesGeneration g words t k.generations y
+SeesGenerations g words t (stage.Passing c d k) =
+    (y : Size) → SeesGeneration g words t k.generations y
+SeesGenerations g words t (stage.Cleaning c l k) =
     (y : Size) → SeesGeneration g words t k.generations y
 SeesGenerations g words t s = Unit {0}
 
