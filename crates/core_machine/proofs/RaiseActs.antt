@@ -3,7 +3,7 @@ use Rattle.std.proofs.Common.{◌≡◌, ◌≢◌, ℕ, ◌+◌, ◌*◌, ◌/�
 use Rattle.std.specs.Prelude.{IfSome, slice_index}
 use Rattle.std.proofs.lemmas.Bool.{cases_eq, eq-eqb, ne_eqb}
 use Rattle.std.proofs.lemmas.List.{get_or-set_same}
-use Rattle.core_machine.proofs.Names.{Size, Generations, granule_bytes, size_bytes, Gpi, words_of, GeometryData, Generation, Level1, place_of, l1_index_of, gen_place_of, blocks_in_region, Act, Fusing, Testing, Storing, Ended, Step, Whole, apart_by, AreWords, Facts, Keeps, step_of, Task, Answer, Entry, region_of, Change, Kept, Stage, address_of, generation_in, AgentData, IsStage, task_of, goes_to, HoldsIn, Scene, state_in, scene_after, map_in, IsCounted, generation_word, entries_at, made_at, granule_of_task, is_inside, open_at, comes_before, SeesGeneration, SeesAt, is_due_at, is_around, coming_at, known_at, is_due, IsMade}
+use Rattle.core_machine.proofs.Names.{Size, Generations, granule_bytes, size_bytes, Gpi, GeometryData, Generation, place_of, gen_place_of, blocks_in_region, apart_by, AreWords, Task, Answer, Entry, region_of, Change, Kept, Stage, address_of, generation_in, AgentData, IsStage, task_of, goes_to, HoldsIn, Scene, state_in, scene_after, map_in, IsCounted, generation_word, entries_at, made_at, granule_of_task, is_inside, open_at, comes_before, SeesGeneration, SeesAt, is_due_at, is_around, coming_at, is_due, IsMade}
 use Rattle.core_machine.proofs.Names.size
 use Rattle.core_machine.proofs.Names.answer
 use Rattle.core_machine.proofs.Names.entry
@@ -12,16 +12,16 @@ use Rattle.core_machine.proofs.Names.caller
 use Rattle.gpt_descriptors.proofs.PlaceLemmas.{generation_named}
 use Rattle.invalidate.specs.Generations.{gen_raise_of}
 use Rattle.delegate_ops.specs.declared.stage.Change.TheVariants as change
-use Rattle.delegate_ops.specs.Changing.{from_of, to_of, raised_at}
+use Rattle.delegate_ops.specs.Changing.{from_of, raised_at}
 use Rattle.delegate_ops.specs.InnerAgents.{IsChangeOf, kept_raised, passing_stage, raised_stage}
 use Rattle.delegate_ops.proofs.AgentLemmas.{at_stage}
 use Rattle.core_machine.proofs.ListLemmas.{one}
 use Rattle.core_machine.proofs.StampLemmas.{rises_one}
-use Rattle.core_machine.proofs.ActLemmas.{IsOwn, holders_of, holder_at, alone_there, tables_after, tables_stay, Acting, inside_of, generation_below, closed_of, counts_of, seen_of, goes_keeps}
+use Rattle.core_machine.proofs.ActLemmas.{IsOwn, holders_of, tables_stay, Acting, inside_of, generation_below, closed_of, counts_of, seen_of, goes_keeps}
 use Rattle.core_machine.specs.InnerAgentCaller.{unraised_at}
 use Rattle.core_machine.specs.InnerWalks.{In, generation_around}
 use Rattle.core_machine.proofs.WalkLemmas.{Tracks, in_pairs, one_pair}
-use Rattle.core_machine.proofs.WordLemmas.{Writes, writes_one, words_left, generation_left}
+use Rattle.core_machine.proofs.WordLemmas.{Writes, writes_one, generation_left}
 use Rattle.core_machine.proofs.OpenedLemmas.{open_here}
 use Rattle.core_machine.proofs.CountedLemmas.{done_counted}
 use Rattle.core_machine.proofs.AddressLemmas.{lock_by_region, region_at}
