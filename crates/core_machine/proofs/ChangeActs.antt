@@ -2,7 +2,7 @@
 use Rattle.std.proofs.Common.{◌≡◌, ◌≢◌, ℕ, ◌+◌, ◌/◌, ◌%◌, ◌*◌, ◌<◌, ◌++◌, ◌∷◌, [], List, Bool, true, false, not, eqb, Some, length, set, refl, sym, ap, ◌∙◌, subst, arith, inl, inr}
 use Rattle.std.proofs.lemmas.List.{get_or-set_same}
 use Rattle.std.proofs.lemmas.Option.{slice_get_within}
-use Rattle.core_machine.proofs.Names.{Gpi, value_of, Holder, apart_by, AreWords, Facts, Keeps, Size, granule_bytes, size_bytes, Level1, place_of, l1_words, l1_index_of, l1_place_of, Task, region_of, Change, Kept, address_of, AgentData, goes_to, Scene, state_in, scene_after, map_in, map_at, granule_of_task, generation_word, comes_before, HoldsIn, Entry, is_due, lock_number, blocks_in_region, GeometryData}
+use Rattle.core_machine.proofs.Names.{Gpi, value_of, Holder, apart_by, AreWords, Facts, Keeps, Size, granule_bytes, size_bytes, Level1, place_of, l1_words, l1_index_of, l1_place_of, Task, region_of, Change, Kept, address_of, AgentData, goes_to, Scene, state_in, scene_after, map_in, map_at, granule_of_task, generation_word, comes_before, HoldsIn, Entry, is_due, lock_number, blocks_in_region}
 use Rattle.core_machine.proofs.Names.gpi
 use Rattle.core_machine.proofs.Names.size
 use Rattle.core_machine.proofs.Names.act

@@ -1,9 +1,10 @@
 -- The barrier after a change, and the cleaning of the lines of its granule before and after it.
-use Rattle.std.proofs.Common.{◌≡◌, ◌≢◌, ◌⊎◌, ℕ, ◌+◌, ◌/◌, ◌<◌, ◌++◌, ◌∷◌, [], List, true, false, eqb, Option, Some, None, length, map, set, refl, sym, ap, ◌∙◌, subst, arith, inl, inr, append-nil}
+use Rattle.std.proofs.Common.{◌≡◌, ℕ, ◌/◌, ◌<◌, ◌∷◌, [], List, true, eqb, Some, None, length, map, set, refl, sym, ap, ◌∙◌, subst, arith, inl, inr, append-nil, ◌≢◌, ◌⊎◌, ◌+◌, ◌*◌, ◌++◌, false, not, ◌&&◌, Option}
 use Rattle.std.specs.Prelude.{slice_index}
 use Rattle.std.specs.Int.Bits.{bit_and}
-use Rattle.std.proofs.lemmas.Bool.{cases_Bool, cases_eq, eqb-true}
+use Rattle.std.proofs.lemmas.Bool.{cases_Bool, cases_eq}
 use Rattle.std.proofs.lemmas.List.{get_or-set_same, map-set}
+use Rattle.std.proofs.lemmas.Bool.{eqb-true}
 use Rattle.core_machine.proofs.Names.{Gpi, Size, Generations, size_bytes, GeometryData, Duty, Line, WordName, place_of, l1_words, l1_index_of, Act, Holder, apart_by, AreWords, step_of, Task, Answer, Change, Kept, Stage, address_of, granule_of_task, AgentData, IsStage, goes_to, took_at, entries_at, HoldsIn, Scene, scene_after, map_in, IsCounted, IsMade, is_inside, SeesGeneration, SeesAt, coming_at, known_at, holder_by}
 use Rattle.core_machine.proofs.Names.act
 use Rattle.core_machine.proofs.Names.task
@@ -20,7 +21,7 @@ use Rattle.delegate_ops.specs.Changing.{space_of_line, target_space}
 use Rattle.alias_clean.specs.Lines.{clean_of, line_mask}
 use Rattle.gpi_values.specs.declared.gpi.Space.{Space}
 use Rattle.std.specs.Int.{bit_not, w64}
-use Rattle.delegate_ops.specs.InnerAgents.{IsBarrierOf, IsChangeOf, IsCleaned, IsPrepared, act_at, waits_at, passing_stage, cleaned_stage}
+use Rattle.delegate_ops.specs.InnerAgents.{IsChangeOf, IsCleaned, IsPrepared, act_at, waits_at, passing_stage, cleaned_stage}
 use Rattle.delegate_ops.proofs.AgentLemmas.{at_stage}
 use Rattle.delegate_ops.proofs.ScriptLemmas.{some_mapped}
 use Rattle.core_machine.proofs.AddressLemmas.{line_at}
@@ -36,7 +37,7 @@ use Rattle.core_machine.proofs.PassLemmas.{barrier_marks, clean_marks, cleaned_d
 use Rattle.core_machine.proofs.ActLemmas.{Acting, IsAlike, inside_of, seen_of, goes_quietly, holders_of, holder_at, alone_there, tables_stay}
 use Rattle.core_machine.proofs.LockActs.{ActKeeps}
 use Rattle.core_machine.proofs.LoadActs.{load_keeps}
-use Rattle.core_machine.proofs.SettleLemmas.{Completes, Settles, settles_barrier, settles_cleaned}
+use Rattle.core_machine.proofs.SettleLemmas.{settles_barrier, settles_cleaned}
 
 -- ---- waiting
 

@@ -89,6 +89,10 @@ some_or_none p (x ∷ xs) =
       ]
     ]
 
+pub none_passes : {X : Type 0} (p : X → Bool) (xs : List X) (c : ℕ) (x : X) → count_by p xs ≡ 0 → slice_get xs c ≡ Some x → p x ≡ false
+none_passes p xs c x none there =
+    elim (cases_Bool (p x)) [ inr fails ↦ fails | inl passes ↦ absurd (let some = some_pass p xs c x there passes in omega (arith, none, some)) ]
+
 pub all_one : {X : Type 0} (P : X → Type 0) (x : X) → P x → All P (x ∷ [])
 all_one P x here = All-cons P x [] here (All-nil P)
 

@@ -16,16 +16,16 @@ use Rattle.core_machine.proofs.Names.caller
 use Rattle.gpt_descriptors.proofs.PlaceLemmas.{generation_named}
 use Rattle.invalidate.specs.Generations.{gen_raise_of}
 use Rattle.delegate_ops.specs.declared.stage.Change.TheVariants as change
-use Rattle.delegate_ops.specs.Changing.{from_of, to_of, raised_at}
+use Rattle.delegate_ops.specs.Changing.{from_of, raised_at}
 use Rattle.delegate_ops.specs.InnerAgents.{IsChangeOf, kept_raised, passing_stage, raised_stage}
 use Rattle.delegate_ops.proofs.AgentLemmas.{at_stage}
 use Rattle.core_machine.proofs.ListLemmas.{one}
 use Rattle.core_machine.proofs.StampLemmas.{rises_one}
-use Rattle.core_machine.proofs.ActLemmas.{IsOwn, holders_of, holder_at, alone_there, tables_after, tables_stay, Acting, inside_of, generation_below, closed_of, counts_of, seen_of, goes_keeps}
+use Rattle.core_machine.proofs.ActLemmas.{IsOwn, holders_of, tables_stay, Acting, inside_of, generation_below, closed_of, counts_of, seen_of, goes_keeps}
 use Rattle.core_machine.specs.InnerAgentCaller.{unraised_at}
 use Rattle.core_machine.specs.InnerWalks.{In, generation_around}
 use Rattle.core_machine.proofs.WalkLemmas.{Tracks, in_pairs, one_pair}
-use Rattle.core_machine.proofs.WordLemmas.{Writes, writes_one, words_left, generation_left}
+use Rattle.core_machine.proofs.WordLemmas.{Writes, writes_one, generation_left}
 use Rattle.core_machine.proofs.OpenedLemmas.{open_here}
 use Rattle.core_machine.proofs.CountedLemmas.{done_counted}
 use Rattle.core_machine.proofs.AddressLemmas.{lock_by_region, region_at}

@@ -1,9 +1,9 @@
 -- Where a transition goes on once a change is complete: to the barrier, to cleaning, to its last change, to merging, or,
 -- where there is nothing to merge, to its unlock.
-use Rattle.std.proofs.Common.{◌≡◌, ℕ, ◌/◌, ◌<◌, ◌++◌, ◌∷◌, [], List, true, false, ltb, Option, Some, None, length, set, refl, sym, ap, ◌∙◌, subst, inl, inr}
+use Rattle.std.proofs.Common.{◌≡◌, ℕ, ◌/◌, ◌∷◌, [], List, true, false, ltb, Option, Some, None, length, set, refl, sym, ap, ◌∙◌, subst, inl, inr}
 use Rattle.std.specs.Prelude.{slice_get}
 use Rattle.std.proofs.lemmas.Bool.{cases_Bool}
-use Rattle.core_machine.proofs.Names.{Gpi, Size, Generations, words_of, GeometryData, WordName, Level1, place_of, l1_index_of, Act, Fusing, Testing, Storing, Ended, Holder, Step, Whole, apart_by, AreWords, Facts, Keeps, step_of, Task, Answer, Change, Kept, Stage, address_of, AgentData, goes_to, Scene, map_in, entries_at, granule_of_task, is_inside, open_at, SeesGeneration, SeesAt, is_due_at, coming_at, known_at}
+use Rattle.core_machine.proofs.Names.{Gpi, Size, Generations, words_of, GeometryData, WordName, Level1, place_of, l1_index_of, Act, Fusing, Testing, Storing, Ended, Step, Whole, apart_by, AreWords, Facts, Keeps, step_of, Task, Answer, Change, Kept, Stage, address_of, AgentData, goes_to, Scene, map_in, entries_at, granule_of_task, is_inside, open_at, SeesGeneration, SeesAt, is_due_at, coming_at, known_at}
 use Rattle.core_machine.proofs.Names.size
 use Rattle.core_machine.proofs.Names.fuse
 use Rattle.core_machine.proofs.Names.task
@@ -26,7 +26,7 @@ use Rattle.delegate_ops.specs.declared.stage.Line.{Line}
 use Rattle.delegate_ops.specs.declared.stage.Line.TheVariants as line
 use Rattle.delegate_ops.specs.Changing.{from_of, to_of}
 use Rattle.delegate_ops.specs.Script.{entries_of}
-use Rattle.delegate_ops.specs.InnerAgents.{IsChangeOf, IsCleaned, number_of, merging_stage, merged_stage, last_stage, passed_stage, passing_stage, cleaned_stage}
+use Rattle.delegate_ops.specs.InnerAgents.{IsChangeOf, number_of, merging_stage, merged_stage, last_stage, passed_stage, passing_stage, cleaned_stage}
 use Rattle.delegate_ops.specs.InnerEntries.{entries_after}
 use Rattle.delegate_ops.proofs.AgentLemmas.{at_stage}
 use Rattle.core_machine.specs.InnerAgentCaller.{done_after}

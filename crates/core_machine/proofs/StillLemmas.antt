@@ -40,11 +40,11 @@ take_again words n held =
 -- ---- an agent that waits
 
 -- an act after which an agent has waited is a lock that was held, or a load of a duty word that wasn't 0
-record Waits (a : AgentData) (t : Task) (s : Stage) (old : ℕ) : Type 0 where
-  held : is_held a.geometry t s old ≡ true
-  after : took_at a t s old ≡ waits_at a
+pub record Waits (a : AgentData) (t : Task) (s : Stage) (old : ℕ) : Type 0 where
+  pub held : is_held a.geometry t s old ≡ true
+  pub after : took_at a t s old ≡ waits_at a
 
-waits_so : (a : AgentData) (t : Task) (s : Stage) (old : ℕ) → (took_at a t s old).waited ≡ true → Waits a t s old
+pub waits_so : (a : AgentData) (t : Task) (s : Stage) (old : ℕ) → (took_at a t s old).waited ≡ true → Waits a t s old
 waits_so a t stage.Locking old waited =
     elim (cases_Bool (is_held a.geometry t stage.Locking old)) [
       | inl held ↦ record { held = held; after = rw held refl }

@@ -1,5 +1,5 @@
 ghost use Rattle.core_machine.specs.InnerLaw.{OneActKeeps};
-ghost use Rattle.core_machine.specs.InnerCallerLaws.{ActsHavePlaces, ActsKeepTheirCaller, AgentsGoOn, WaitsHaveCauses};
+ghost use Rattle.core_machine.specs.InnerCallerLaws.{ActsHavePlaces, ActsKeepTheirCaller, AgentsGoOn, LocksHaveHolders, WaitsHaveCauses};
 
 /// The law of the core: whatever act a caller makes next, its place is one of the shared words, the
 /// caller can take its answer, and the invariant of the core holds again after it, with the history
@@ -17,7 +17,9 @@ pub fn callers_keep_to_their_words()
     ensures next { AgentsGoOn }
 {}
 
-/// Why an agent waits: another caller holds the lock that it is about to take.
+/// Why an agent waits: another caller holds the lock that it is about to take, or its barrier has come
+/// to a processor that is between the first and the last act of an access.
 pub fn waits_have_causes()
-    ensures { WaitsHaveCauses }
+    ensures locks { LocksHaveHolders }
+    ensures waits { WaitsHaveCauses }
 {}

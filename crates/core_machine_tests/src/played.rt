@@ -133,7 +133,7 @@ fn one_of_two_agents_waits_and_is_refused(rt: HostRuntime) -> Result<(), Fail> {
 
 #[test]
 fn a_granule_goes_and_comes_back(rt: HostRuntime) -> Result<(), Fail> {
-    let rest = "agent\ndelegate 0x0 realm\nundelegate 0x0 realm\nround 1 24\n";
+    let rest = "agent\ndelegate 0x0 realm\nundelegate 0x0 realm\nround 1 28\n";
     let outcome = played_text(rt.alloc(), 0, "nonsecure", rest)?;
     assert_eq!(rt; answers(&outcome, 0)?, [done(1), done(3)].as_slice());
     let want = words(rt.alloc(), 0, 3, 0x9999_9999_9999_9999)?;
@@ -173,7 +173,7 @@ fn played_between(alloc: Global, lines: &str) -> Result<Outcome, Fail> {
 /// Turns in the middle of a splitting, at its end, in the tests of merging, in the middle of
 /// merging, at its end, and beyond it.
 const TURNS: [u64; 10] = [
-    20, 4101, 4136, 8196, 8197, 8240, 8279, 12_000, 16_470, 16_500,
+    20, 4101, 4136, 8196, 8197, 8244, 8283, 12_000, 16_474, 16_500,
 ];
 
 #[test]
@@ -197,7 +197,7 @@ fn turns_of_one_line_leave_what_single_turns_leave(rt: HostRuntime) -> Result<()
 
 #[test]
 fn a_granule_that_comes_back_lets_512_mb_merge(rt: HostRuntime) -> Result<(), Fail> {
-    let rest = "agent\ndelegate 0x0 realm\nundelegate 0x0 realm\nturn 0 16470\n";
+    let rest = "agent\ndelegate 0x0 realm\nundelegate 0x0 realm\nturn 0 16474\n";
     let outcome = played_at(rt.alloc(), 512, 0, "nonsecure", rest)?;
     assert_eq!(rt; answers(&outcome, 0)?, [done(1), done(3)].as_slice());
     let mut want = vec![in rt.alloc(); 0u64; 34954]?;
@@ -323,18 +323,67 @@ fn an_access_sees_a_change_before_or_after_its_word(rt: HostRuntime) -> Result<(
     // The change is made between the generations and the word, and after the word; its generations
     // are raised before the access loads the one of its word again.
     let before =
-        "agent\ndelegate 0x0 realm\ncpu\nlook 0x0 realm\nturn 0 5\nturn 1 4\nturn 0 4\nturn 1 3\n";
+        "agent\ndelegate 0x0 realm\ncpu\nlook 0x0 realm\nturn 0 6\nturn 1 4\nturn 0 4\nturn 1 3\n";
     let outcome = played_text(rt.alloc(), 0, "nonsecure", before)?;
     assert_eq!(rt;
         answers(&outcome, 1)?,
         [cold(Gpi::Realm, true, 0, 1)].as_slice()
     );
     let after =
-        "agent\ndelegate 0x0 realm\ncpu\nlook 0x0 realm\nturn 0 5\nturn 1 5\nturn 0 4\nturn 1 2\n";
+        "agent\ndelegate 0x0 realm\ncpu\nlook 0x0 realm\nturn 0 6\nturn 1 5\nturn 0 4\nturn 1 2\n";
     let outcome = played_text(rt.alloc(), 0, "nonsecure", after)?;
     assert_eq!(rt;
         answers(&outcome, 1)?,
         [cold(Gpi::NonSecure, false, 0, 1)].as_slice()
     );
+    Ok(())
+}
+
+/// A delegate beside an access that has set its duty word, 2186, before the delegate's first act.
+const BESIDE_AN_ACCESS: &str =
+    "agent\ndelegate 0x0 realm\ncpu\nlook 0x0 nonsecure\nturn 1 1\nturn 0 100\n";
+
+#[test]
+fn a_barrier_waits_for_an_access_from_before(rt: HostRuntime) -> Result<(), Fail> {
+    let outcome = played_text(rt.alloc(), 0, "nonsecure", BESIDE_AN_ACCESS)?;
+    assert!(rt; answers(&outcome, 0)?.is_empty());
+    // It holds its lock, has raised its generations, and hasn't cleared the duty word.
+    let words = outcome.words.as_slice();
+    assert_eq!(rt; *words.get(0).ok_or("no words")?, 1);
+    for place in [2, 2050, 2178, 2186] {
+        assert_eq!(rt; *words.get(place).ok_or("no words")?, 1);
+    }
+    Ok(())
+}
+
+#[test]
+fn a_barrier_passes_when_the_access_is_over(rt: HostRuntime) -> Result<(), Fail> {
+    // The rest of the access; and then the load of its duty word, the last clean and the unlock.
+    for (turns, count) in [(2, 0), (3, 1)] {
+        let rest = format!(in rt.alloc(); "{BESIDE_AN_ACCESS}turn 1 6\nturn 0 {turns}\n")?;
+        let outcome = played_text(rt.alloc(), 0, "nonsecure", &rest)?;
+        assert_eq!(rt;
+            answers(&outcome, 1)?,
+            [cold(Gpi::Realm, false, 1, 1)].as_slice()
+        );
+        assert_eq!(rt; answers(&outcome, 0)?.len(), count);
+    }
+    Ok(())
+}
+
+#[test]
+fn an_undelegate_waits_behind_each_of_its_changes(rt: HostRuntime) -> Result<(), Fail> {
+    // Two processors. The first change is behind their duty words, and so is the second one.
+    let rest =
+        "agent\nundelegate 0x0 realm\ncpu\nlook 0x0 realm\ncpu\nlook 0x0 realm\nlook 0x0 realm\n";
+    for (lines, count) in [
+        ("turn 2 1\nturn 0 100\nturn 1 1\nturn 2 6\nturn 0 100\n", 0),
+        ("turn 2 1\nturn 0 100\nturn 2 6\nturn 0 100\n", 1),
+        ("turn 2 7\nturn 0 13\nturn 2 1\nturn 0 100\n", 0),
+    ] {
+        let rest = format!(in rt.alloc(); "{rest}{lines}")?;
+        let outcome = played_text(rt.alloc(), 0, "realm", &rest)?;
+        assert_eq!(rt; answers(&outcome, 0)?.len(), count, "{lines}");
+    }
     Ok(())
 }
