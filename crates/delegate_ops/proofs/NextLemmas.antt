@@ -1,16 +1,23 @@
 -- An agent with a call left has a next act.
-use Rattle.std.proofs.Common.{◌≡◌, ℕ, ◌+◌, ◌*◌, ◌/◌, ◌%◌, eqb, ltb, take, true, false, not, Option, Some, None, refl, ap, ◌∙◌, inl, inr}
+use Rattle.std.proofs.Common.{◌≡◌, ℕ, ◌+◌, ◌*◌, ◌/◌, ◌%◌, ◌<◌, arith, eqb, ltb, take, true, false, not, Option, Some, None, refl, ap, ◌∙◌, inl, inr}
 use Rattle.std.specs.Prelude.{is_some, slice_index}
-use Rattle.std.proofs.lemmas.Bool.{cases_Bool}
+use Rattle.std.specs.Int.{bit_not, w64}
+use Rattle.std.proofs.lemmas.Bool.{cases_Bool, ltb-true}
+use Rattle.gpi_values.specs.declared.gpi.Space.{Space}
 use Rattle.gpt_descriptors.specs.Sizes.{granule_bytes, word_bytes, table_words, space_bytes}
 use Rattle.gpt_descriptors.specs.Level0.{is_table, table_count}
-use Rattle.gpt_descriptors.specs.Places.{GeometryData, Level1, place_of, l0_words, l0_word_of, l1_index_of, l1_place_of}
+use Rattle.gpt_descriptors.specs.Places.{GeometryData, Level1, Line, place_of, l0_words, l0_word_of, l1_index_of, l1_place_of}
 use Rattle.gpt_descriptors.proofs.PlaceLemmas.{region_of_word}
+use Rattle.shared_words.specs.declared.act.Act.TheVariants as act
+use Rattle.invalidate.specs.Duty.{barrier_load}
+use Rattle.invalidate.specs.Barrier.{BarrierData, next_load}
+use Rattle.alias_clean.specs.Lines.{line_mask, clean_of}
 use Rattle.history.specs.declared.call.Task.{Task}
 use Rattle.delegate_ops.specs.InnerStages.{Stage}
 use Rattle.delegate_ops.specs.InnerStages as stage
 use Rattle.delegate_ops.specs.Deciding.{address_of, is_unusable, idle_answer}
-use Rattle.delegate_ops.specs.InnerAgents.{AgentData, IsAgent, IsStage, HasActs, task_of, act_at, next_of, has_ended}
+use Rattle.delegate_ops.specs.Changing.{target_space, space_of_line}
+use Rattle.delegate_ops.specs.InnerAgents.{AgentData, IsAgent, IsStage, IsBarrierOf, HasActs, task_of, act_at, next_of, has_ended}
 use Rattle.delegate_ops.proofs.DecidingLemmas.{acts_usable}
 
 -- a usable address has a table
@@ -45,15 +52,24 @@ acts_place g t acts =
 pub acts_index : (g : GeometryData) (t : Task) → idle_answer g t ≡ None → (index : ℕ) × (l1_index_of g (address_of t) ≡ Some index)
 acts_index g t acts = index_there g (address_of t) (usable_table g (address_of t) (acts_usable g t acts))
 
+-- it has a line word, in which the line of its granule and a space is cleaned
+pub clean_there : (g : GeometryData) (t : Task) (s : Space) → idle_answer g t ≡ None
+    → (index : ℕ) × (l1_index_of g (address_of t) ≡ Some index) × (clean_of g (address_of t) s ≡ Some (act.And (place_of g (Line index)) (bit_not w64 (line_mask g (address_of t) s))))
+clean_there g t s acts = let there = acts_index g t acts in (there.0, there.1, rw there.1 refl)
+
+-- a barrier that isn't over loads the duty word of a processor
+pub load_there : (g : GeometryData) (d : BarrierData) → IsBarrierOf g d → (d.passed < g.cpus) × (next_load g d ≡ Some (barrier_load g d.passed))
+load_there g d is = (omega (arith, ltb-true _ _ is.low, is.cpus), rw is.low refl)
+
 -- a task with acts has a next one at each stage
 act_there : (g : GeometryData) (s : Stage) (t : Task) → idle_answer g t ≡ None → IsStage g s (Some t) → is_some (act_at g s t) ≡ true
 act_there g stage.Locking t acts fits = refl
 act_there g stage.Looking t acts fits = rw (acts_place g t acts).1 refl
 act_there g (stage.Reading z k) t acts fits = refl
 act_there g (stage.Splitting z d k) t acts fits = rw fits.0.low refl
-act_there g (stage.Preparing k) t acts fits = rw (acts_index g t acts).1 refl
-act_there g (stage.Passing c d k) t acts fits = rw fits.1.low refl
-act_there g (stage.Cleaning c l k) t acts fits = rw (acts_index g t acts).1 refl
+act_there g (stage.Preparing k) t acts fits = ap is_some (clean_there g t (target_space t) acts).2
+act_there g (stage.Passing c d k) t acts fits = ap is_some (load_there g d fits.1).1
+act_there g (stage.Cleaning c l k) t acts fits = ap is_some (clean_there g t (space_of_line t c l) acts).2
 act_there g (stage.Changing c k) t acts fits = rw (acts_place g t acts).1 refl
 act_there g (stage.Raising c z k) t acts fits = refl
 act_there g (stage.Merging f k) t acts fits = fits.some

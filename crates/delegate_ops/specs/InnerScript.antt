@@ -25,7 +25,7 @@ use Rattle.delegate_ops.specs.InnerStages.{Stage}
 use Rattle.delegate_ops.specs.InnerStages as stage
 use Rattle.delegate_ops.specs.Deciding.{address_of, looked_answer}
 use Rattle.delegate_ops.specs.Changing.{changed_word, raised_at, raised, target_space, former_space}
-use Rattle.delegate_ops.specs.Script.{IsWait, TakesLock, Looks, Part, Passes, IsBusy, ArePassed, plain_part, cleans, Changes, Decides, AreCallEvents, last_raise, raises, change_and_raises, kept_after, kept_split, transition_parts, all_parts, last_word, last_generations}
+use Rattle.delegate_ops.specs.Script.{IsWait, TakesLock, Looks, Part, Passes, IsBusy, ArePassed, plain_part, cleans, Changes, Decides, AreCallEvents, last_raise, raises, change_parts, kept_after, kept_split, transition_parts, all_parts, last_word, last_generations}
 use Rattle.delegate_ops.specs.InnerAgents.{AgentData, task_of, IsBarrierOf}
 
 -- the loads of generations before that of this size
@@ -71,9 +71,9 @@ last_cleans g t = []
 abbrev pub parts_from : GeometryData → ℕ → ℕ → Task → ℕ → Change → Line → Kept → List Part
 parts_from g c n t place change.First line.Former k =
     cleans g t (former_space t change.First)
-    ++ (cleans g t space.NonSecure ++ change_and_raises g c n t place change.Last k)
+    ++ (cleans g t space.NonSecure ++ change_parts g c n t place change.Last k)
 parts_from g c n t place change.First line.NonSecure k =
-    cleans g t space.NonSecure ++ change_and_raises g c n t place change.Last k
+    cleans g t space.NonSecure ++ change_parts g c n t place change.Last k
 parts_from g c n t place change.Last l k = last_cleans g t
 
 abbrev pub parts_after : GeometryData → ℕ → ℕ → Task → ℕ → Change → Kept → List Part
@@ -82,7 +82,7 @@ parts_after g c n t place ch k = parts_from g c n t place ch line.Former k
 -- from a change on
 abbrev pub change_on : GeometryData → ℕ → ℕ → Task → ℕ → Change → Kept → List Part
 change_on g c n t place ch k =
-    change_and_raises g c n t place ch k ++ parts_after g c n t place ch (kept_after g t ch k)
+    change_parts g c n t place ch k ++ parts_after g c n t place ch (kept_after g t ch k)
 
 -- what they leave of generations and word
 abbrev pub generations_after : Change → Generations → Generations

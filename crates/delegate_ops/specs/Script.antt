@@ -146,15 +146,16 @@ raises g c n t k =
     ∷ plain_part (gen_raise_of g size.ThirtyTwo (address_of t) k.thirty_two)
     ∷ last_raise g c n t k ∷ Passes ∷ []
 
-abbrev pub change_and_raises : GeometryData → ℕ → ℕ → Task → ℕ → Change → Kept → List Part
-change_and_raises g c n t place ch k =
+-- a change with its raises and its barrier
+abbrev pub change_parts : GeometryData → ℕ → ℕ → Task → ℕ → Change → Kept → List Part
+change_parts g c n t place ch k =
     Makes (record {
       act = act.Store place (changed_word g t ch k.word);
       made = change_entry g c n t ch ∷ [];
     })
     ∷ raises g c n t k.generations
 
--- what is kept after a change and its raises
+-- what is kept after them
 abbrev pub kept_after : GeometryData → Task → Change → Kept → Kept
 kept_after g t ch k = record {
   word = changed_word g t ch k.word;
@@ -167,13 +168,13 @@ kept_after g t ch k = record {
 abbrev pub transition_parts : GeometryData → ℕ → ℕ → Task → ℕ → Kept → List Part
 transition_parts g c n (task.Delegate pa source) place k =
     cleans g (task.Delegate pa source) (own_space source)
-    ++ (change_and_raises g c n (task.Delegate pa source) place change.Last k
+    ++ (change_parts g c n (task.Delegate pa source) place change.Last k
     ++ cleans g (task.Delegate pa source) space.NonSecure)
 transition_parts g c n (task.Undelegate pa source) place k =
-    change_and_raises g c n (task.Undelegate pa source) place change.First k
+    change_parts g c n (task.Undelegate pa source) place change.First k
     ++ (cleans g (task.Undelegate pa source) (own_space source)
     ++ (cleans g (task.Undelegate pa source) space.NonSecure
-    ++ change_and_raises g c n (task.Undelegate pa source) place change.Last
+    ++ change_parts g c n (task.Undelegate pa source) place change.Last
     (kept_after g (task.Undelegate pa source) change.First k)))
 transition_parts g c n t place k = []
 
