@@ -656,7 +656,7 @@ answered_stamped {s = s} {c = c} {q = q} {pa = pa} {space = space} access acting
       starting_stamps g s.first c (length ((q.answers ++ given ∷ []) ++ idle)) (task_of (after_answer (cpu_at q (stage.Leaving access)) given)) s.history,
     )
 
-starting_decided : (g : GeometryData) (o : Option Task) → decided_under g o stage.Starting ≡ []
+pub starting_decided : (g : GeometryData) (o : Option Task) → decided_under g o stage.Starting ≡ []
 starting_decided g None = refl
 starting_decided g (Some (task.Look pa space)) = refl
 starting_decided g (Some (task.Delegate pa source)) = refl

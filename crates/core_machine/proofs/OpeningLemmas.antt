@@ -1,5 +1,5 @@
 -- The words before the first act: built tables among them mean the region map, and no caller is at work on them.
-use Rattle.std.proofs.Common.{◌≡◌, ℕ, suc, [], ◌∷◌, ◌*◌, ◌/◌, ◌%◌, ◌<◌, List, map, length, true, false, Option, Some, None, append-nil, refl, sym, ap, ◌∙◌, subst, arith}
+use Rattle.std.proofs.Common.{◌≡◌, ℕ, suc, [], ◌∷◌, ◌*◌, ◌/◌, ◌%◌, ◌<◌, List, map, length, true, false, Option, Some, None, append-nil, refl, sym, ap, ◌∙◌, subst, arith, eqb}
 use Rattle.std.specs.Prelude.{slice_get, slice_index}
 use Rattle.std.specs.Int.{bit_at}
 use Rattle.std.specs.List.{All, flat_map, range_with_len}
@@ -10,6 +10,11 @@ use Rattle.std.proofs.Math.Nat.{div-lt_iff_lt-mul}
 use Rattle.std.proofs.lemmas.List.FromFn.{length-map-range_with_len, get_or-map-range_with_len}
 use Rattle.std.proofs.lemmas.Nat.{div_below}
 use Rattle.std.proofs.lemmas.Option.{get_or_from_slice_get, slice_get_within}
+use Rattle.gpi_values.specs.declared.gpi.Space.{Space}
+use Rattle.alias_clean.specs.Lines.{bit_of, is_resident}
+use Rattle.core_machine.specs.Lines.{has_line, line_at}
+use Rattle.core_machine.specs.InnerCpuCaller.{Decision}
+use Rattle.core_machine.specs.InnerCallers.{decided_by}
 use Rattle.core_machine.specs.InnerCallers.{unraised_by, walks_by}
 use Rattle.core_machine.specs.InnerWalks.{In}
 use Rattle.walk_cache.specs.declared.walk.Walk.{Walk}
@@ -36,7 +41,7 @@ use Rattle.processor.specs.InnerCpus as cpus
 use Rattle.processor.proofs.EntryLemmas.{fresh_quiet}
 use Rattle.processor.proofs.ScriptLemmas.{fresh_walked as cpu_fresh_walked}
 use Rattle.core_machine.proofs.AloneLemmas.{undisturbed_empty}
-use Rattle.core_machine.proofs.CpuActs.{cpu_counted}
+use Rattle.core_machine.proofs.CpuActs.{cpu_counted, starting_decided}
 use Rattle.core_machine.proofs.StampLemmas.{idle_unstamped, starting_loads, starting_stamps}
 use Rattle.core_machine.proofs.StepLemmas.{number_low}
 use Rattle.core_machine.proofs.ListLemmas.{count_none}
@@ -137,6 +142,7 @@ pub record IsAtRest (g : GeometryData) (x : Caller) : Type 0 where
   pub stamps : (map : List Gpi) (c : ℕ) → HasOwnStamps map [] c x
   pub raises : (y : Size) (pair : ℕ × Gpi) → In pair (unraised_by y x) → ⊥
   pub walks : (w : Walk) → In w (walks_by x) → ⊥
+  pub decides : (d : Decision) → In d (decided_by x) → ⊥
 
 fresh_rests : (g : GeometryData) (x : Caller) → IsFresh g x → IsAtRest g x
 fresh_rests g (caller.Agent a) is =
@@ -155,6 +161,7 @@ fresh_rests g (caller.Agent a) is =
       stamps = λ map c. tt;
       raises = λ y pair has. has;
       walks = λ w has. has;
+      decides = λ d has. has;
     })
 fresh_rests g (caller.Cpu q) is =
     let p : ℕ = q.number in
@@ -177,6 +184,7 @@ fresh_rests g (caller.Cpu q) is =
       );
       raises = λ y pair has. has;
       walks = λ w has. has;
+      decides = λ d has. subst (In d) (starting_decided g (cpus.task_of (cpus.fresh g p q.tasks))) has;
     })
 
 -- each caller of a fresh list
@@ -200,6 +208,15 @@ opening_tables g first callers words fresh_all starting = record {
       ∙ ap (λ (o : Option ℕ). canonical_word g.setup (map_at first) o w) (sym (all_whole g.setup (map holder_by callers) w (λ d h there. fresh_holder g callers d h fresh_all there)));
   blocks = starting.blocks;
 }
+
+-- no line is resident where all line words are 0
+line_none : (g : GeometryData) (words : List ℕ) (w : ℕ) (o : Option ℕ) (granule : ℕ) (sp : Space) → IsGeometry g → ((i : ℕ) → i < l1_words g → slice_index words (place_of g (Line i)) ≡ 0) → l1_index g.setup (l0_words g) w ≡ o → line_at g words o granule sp ≡ false
+line_none g words w None granule sp geometry none at = refl
+line_none g words w (Some i) granule sp geometry none at =
+    ap (λ (word : ℕ). is_resident word (granule % 16) sp) (none i (index_below g w i geometry at)) ∙ ap (λ (bit : ℕ). eqb bit 1) (bit_at-zero (bit_of (granule % 16) sp))
+
+no_line : (g : GeometryData) (words : List ℕ) → IsGeometry g → ((i : ℕ) → i < l1_words g → slice_index words (place_of g (Line i)) ≡ 0) → (granule : ℕ) (sp : Space) → has_line g words granule sp ≡ false
+no_line g words geometry none granule sp = line_none g words (granule / 16) (l1_index g.setup (l0_words g) (granule / 16)) granule sp geometry none refl
 
 pub opening_invariant : (g : GeometryData) (first : List Gpi) (callers : List Caller) (words : List ℕ) → All (IsFresh g) callers → NumbersDiffer callers → AreStarting g first words → HoldsIn g (record { first = first; words = words; callers = callers; history = [] })
 opening_invariant g first callers words fresh_all differ starting =
@@ -225,7 +242,9 @@ opening_invariant g first callers words fresh_all differ starting =
       duties = λ c p x at is. let rest = rests c x at in starting.duty p (number_low g x p rest.made is) ∙ sym rest.off;
       others = λ p low none. starting.duty p low;
       numbers = differ;
-      lines = starting.lines;
+      decisions = λ c p x d at number has. absurd ((rests c x at).decides d has);
+      lines = λ granule sp resident. absurd (let none : has_line g words granule sp ≡ false = no_line g words starting.geometry starting.lines granule sp in let both : true ≡ false = sym resident ∙ none in cc);
+      touches = λ granule sp permits seen. absurd cc;
       least = λ y region within. let first = starting.generations y region within in omega (arith, first);
       loads = λ c x at. (rests c x at).loads words;
       stamps = λ c x at. (rests c x at).stamps first c;

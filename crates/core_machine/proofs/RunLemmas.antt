@@ -1,5 +1,5 @@
 -- What a run leaves: its trace, and what answers and words are for the trace's history.
-use Rattle.std.proofs.Common.{◌≡◌, ℕ, zero, suc, ◌+◌, ◌*◌, ◌<◌, ◌≤◌, not, ◌⊎◌, ◌++◌, ◌∷◌, [], List, true, false, map, length, Option, Some, None, get_or, refl, sym, ap, ◌∙◌, subst, arith, inl, inr}
+use Rattle.std.proofs.Common.{◌≡◌, ℕ, zero, suc, ◌+◌, ◌*◌, ◌<◌, ◌≤◌, not, ◌⊎◌, ◌++◌, ◌∷◌, [], List, true, false, map, length, Option, Some, None, get_or, refl, sym, ap, ◌∙◌, subst, arith, inl, inr, Bool, ◌&&◌}
 use Rattle.std.specs.Prelude.{slice_get, slice_index, is_some, Result, Ok, Err, IfOk}
 use Rattle.history.specs.declared.outcome.Outcome.{Outcome}
 use Rattle.std.specs.List.{All, count_by}
@@ -10,7 +10,14 @@ use Rattle.std.proofs.lemmas.Option.{slice_get_cases, slice_get-map, slice_get_p
 use Rattle.history.specs.Rings.{AreRinged, HasRings, IsRinged, named_in}
 use Rattle.history.specs.declared.rings.Named.{Named}
 use Rattle.processor.proofs.RingLemmas.{walked_ringed}
-use Rattle.core_machine.proofs.Names.{Gpi, Entry, start, after_entry, state_after, Size, granule_bytes, size_bytes, GeometryData, blocks_in_region, word_count, Duty, place_of, CallEvent, CpuData, IsCpu, Act, lock_number, lock_bit, Scenario, Script, Task, Answer, answer_at, count_of, AgentData, IsAgent, next_of, Caller, caller_next, caller_answers, known_answers, duty_by, number_by, holds, is_due, caller_tasks, IsMade, HoldsIn, InvariantFor, scene_of, caller_of, callers_from, cpu_number, opening_of, played, IsCounted, generation_word, TraceEvent, history_of, first_map, geometry_of, task_of_ask, task_of_look, turns_in, Scene, is_inside, coming_at}
+use Rattle.gpi_values.specs.Values.{permits_of}
+use Rattle.core_machine.specs.Lines.{AreAtRest, has_line, seen_in}
+use Rattle.core_machine.specs.InnerAgentCaller.{uncleaned_at}
+use Rattle.core_machine.specs.InnerCpuCaller.{touching_under}
+use Rattle.core_machine.specs.InnerCallers.{touching_by, uncleaned_by}
+use Rattle.core_machine.specs.InnerWalks.{In}
+use Rattle.core_machine.proofs.Names.stage
+use Rattle.core_machine.proofs.Names.{map_in, Gpi, Entry, start, after_entry, state_after, Size, granule_bytes, size_bytes, GeometryData, blocks_in_region, word_count, Duty, place_of, CallEvent, CpuData, IsCpu, Act, lock_number, lock_bit, Scenario, Script, Task, Answer, answer_at, count_of, AgentData, IsAgent, next_of, Caller, caller_next, caller_answers, known_answers, duty_by, number_by, holds, is_due, caller_tasks, IsMade, HoldsIn, InvariantFor, scene_of, caller_of, callers_from, cpu_number, opening_of, played, IsCounted, generation_word, TraceEvent, history_of, first_map, geometry_of, task_of_ask, task_of_look, turns_in, Scene, is_inside, coming_at, Stage, IsStage, task_of}
 use Rattle.core_machine.proofs.Names.script
 use Rattle.core_machine.proofs.Names.task
 use Rattle.core_machine.proofs.Names.entry
@@ -147,6 +154,42 @@ duty_ended g s tasks stands have numbered ended p low =
     stands.duties own.0 p own.1 own.2 own.3
     ∙ off_by g own.1 (made_at_place g s own.0 own.1 stands own.2) (all_answered tasks s.callers own.0 own.1 have own.2 ended)
 
+-- ---- lines at the end
+
+-- a caller without a call left has nothing uncleaned and nothing to touch
+cleaned_by : (g : GeometryData) (x : Caller) → IsMade g x → length (caller_tasks x) ≤ length (caller_answers x) → uncleaned_by x ≡ []
+cleaned_by g (caller.Agent a) made all =
+    let none : task_of a ≡ None = slice_get_past a.tasks (length a.answers) all in
+    let locking : a.stage ≡ stage.Locking = subst (IsStage a.geometry a.stage) none made.1.stage in
+    ap (λ (s : Stage). uncleaned_at a.geometry s (task_of a)) locking
+cleaned_by g (caller.Cpu q) made all = refl
+
+touched_by : (g : GeometryData) (x : Caller) → IsMade g x → length (caller_tasks x) ≤ length (caller_answers x) → touching_by x ≡ []
+touched_by g (caller.Agent a) made all = refl
+touched_by g (caller.Cpu q) made all = ap (λ (o : Option Task). touching_under q.geometry o q.stage) (slice_get_past q.tasks (length q.answers) all)
+
+neither : (b c : Bool) → (b ≡ true → c ≡ true → ⊥) → (b && c) ≡ false
+neither true true never = absurd (never refl refl)
+neither true false never = refl
+neither false c never = refl
+
+pub lines_ended : (g : GeometryData) (s : Scene) (tasks : List (List Task)) → HoldsIn g s → HaveTasks tasks s.callers → ((d k : ℕ) (t : Task) → task_at tasks d k ≡ Some t → answer_at (map caller_answers s.callers) d k ≡ None → ⊥)
+    → AreAtRest g s.words (map_in s) s.history
+lines_ended g s tasks stands have ended k sp =
+    let done : (d : ℕ) (x : Caller) → slice_get s.callers d ≡ Some x → length (caller_tasks x) ≤ length (caller_answers x) = λ d x there. all_answered tasks s.callers d x have there ended in
+    elim (cases_Bool (has_line g s.words k sp)) [
+      | inl resident ↦ resident ∙ elim (stands.lines k sp resident) [
+        | inl by_map ↦ sym (rw (by_map.0, by_map.1) refl)
+        | inr former ↦
+            absurd (let some = former.2 in
+            subst (In {A = ℕ × Gpi} (k, former.0)) (cleaned_by g some.caller (made_at_place g s some.number some.caller stands some.at) (done some.number some.caller some.at)) some.has)
+      ]
+      | inr none ↦ none ∙ sym (neither (permits_of (map_in s k) sp) (seen_in k sp s.history) (λ permits seen. elim (stands.touches k sp permits seen) [
+        | inl resident ↦ let both : true ≡ false = sym resident ∙ none in cc
+        | inr some ↦ subst (In {A = ℕ × Space} (k, sp)) (touched_by g some.caller (made_at_place g s some.number some.caller stands some.at) (done some.number some.caller some.at)) some.has
+      ]))
+    ]
+
 -- ---- causes
 
 caller_cause : (g : GeometryData) (c k : ℕ) (x : Caller) (t : Task) (given : Answer) → IsWalked g c x → slice_get (caller_tasks x) k ≡ Some t → slice_get (caller_answers x) k ≡ Some given → is_look t ≡ false → HasCause g t given
@@ -271,7 +314,7 @@ fits_history g s tasks stands have made numbered count =
       ended = locks_ended g s tasks stands have;
       whole = whole_told g s stands (locks_ended g s tasks stands have);
       duty = duty_ended g s tasks stands have numbered;
-      lines = stands.lines;
+      lines = lines_ended g s tasks stands have;
     }
 
 -- ---- the trace of a schedule

@@ -10,7 +10,9 @@ use Rattle.std.proofs.lemmas.Bool.{cases_Bool, cases_eq, cases_order, eq-eqb, ne
 use Rattle.std.proofs.lemmas.List.{map-append, set-get_or, get_or-set_other, get_or-set_same}
 use Rattle.std.proofs.lemmas.List.Elements.{filter-append, All-nil, All-cons, All-append}
 use Rattle.std.proofs.lemmas.List.Sums.{sum_by-append}
-use Rattle.core_machine.proofs.Names.{GeometryData, Duty, place_of, WordName, IsWordName, Act, answer_of, after_act, place_in, lock_bit, take_act, release_act, Scenario, Script, IsStage, fresh, Caller, TraceEvent, CallEvent, HoldsIn, MachineData, InvariantFor, after_turn, after_turns, scene_of, trace_of, IsMade, caller_next, caller_took, holds, callers_from, next_number, opening_of, played, first_map, geometry_of, task_of_ask, task_of_look, turns_in, Scene, is_inside}
+use Rattle.alias_clean.specs.Lines.{line_mask}
+use Rattle.core_machine.proofs.AddressLemmas.{index_below}
+use Rattle.core_machine.proofs.Names.{GeometryData, Duty, place_of, WordName, IsWordName, Act, answer_of, after_act, place_in, lock_bit, take_act, release_act, Scenario, Script, IsStage, fresh, Caller, TraceEvent, CallEvent, HoldsIn, MachineData, InvariantFor, after_turn, after_turns, scene_of, trace_of, IsMade, caller_next, caller_took, holds, callers_from, next_number, opening_of, played, first_map, geometry_of, task_of_ask, task_of_look, turns_in, Scene, is_inside, Line}
 use Rattle.core_machine.proofs.Names.act
 use Rattle.core_machine.proofs.Names.script
 use Rattle.core_machine.proofs.Names.caller
@@ -296,11 +298,15 @@ caller_counts : (g : GeometryData) (s : Scene) (c : ℕ) (x : Caller) (t : Act) 
 caller_counts g s c (caller.Cpu q) t m stands at next low =
     let way = cpu_accessing g s c q t stands at next in
     let stores = λ (v : ℕ). plain_counts q.geometry s.words (Duty q.number) (act.Store (place_of q.geometry (Duty q.number)) v) m way.acting.is.number refl refl low in
-    elim (how_acts q.geometry q.number way.pa q.stage t way.acts) [
+    elim (how_acts q.geometry q.number way.pa way.space q.stage t way.acts) [
       | inl load ↦ subst (λ (x : Act). CountsLock s.words x m) (sym load) (ap (λ (words : List ℕ). lock_bit words m + 0) (set-get_or s.words (place_in t) 0))
       | inr store ↦ elim store [
         | inl on ↦ subst (λ (x : Act). CountsLock s.words x m) (sym on.0) (stores 1)
-        | inr off ↦ subst (λ (x : Act). CountsLock s.words x m) (sym off.0) (stores 0)
+        | inr more ↦ elim more [
+          | inl off ↦ subst (λ (x : Act). CountsLock s.words x m) (sym off.0) (stores 0)
+          | inr touch ↦ subst (λ (x : Act). CountsLock s.words x m) (sym touch.2)
+              (plain_counts q.geometry s.words (Line touch.0) (act.Or (place_of q.geometry (Line touch.0)) (line_mask q.geometry way.pa way.space)) m (index_below q.geometry _ touch.0 way.acting.stands.shape.geometry touch.1) refl refl low)
+        ]
       ]
     ]
 caller_counts g s c (caller.Agent a) t m stands at next low =
@@ -369,11 +375,16 @@ duty_counts g s c (caller.Cpu q) t p stands at next low =
     let stores = λ (v : ℕ) (turns : v + one (eqb v 0) ≡ duty_word q.geometry q.number s.words + one (eqb v 1)).
     store_duty q.geometry s.words q.number p v acting.is.number (subst (λ (k : GeometryData). p < k.cpus) (sym way.geometry) low) (duty_below acting) turns in
     subst (λ (k : GeometryData). CountsDuty k p s.words t) way.geometry
-    (elim (how_acts q.geometry q.number way.pa q.stage t way.acts) [
+    (elim (how_acts q.geometry q.number way.pa way.space q.stage t way.acts) [
       | inl load ↦ subst (λ (x : Act). CountsDuty q.geometry p s.words x) (sym load) (ap (λ (words : List ℕ). duty_word q.geometry p words + 0) (set-get_or s.words (place_in t) 0))
       | inr store ↦ elim store [
         | inl on ↦ subst (λ (x : Act). CountsDuty q.geometry p s.words x) (sym on.0) (stores 1 (omega (arith, duty_is acting, on.1)))
-        | inr off ↦ subst (λ (x : Act). CountsDuty q.geometry p s.words x) (sym off.0) (stores 0 (omega (arith, duty_is acting, off.1)))
+        | inr more ↦ elim more [
+          | inl off ↦ subst (λ (x : Act). CountsDuty q.geometry p s.words x) (sym off.0) (stores 0 (omega (arith, duty_is acting, off.1)))
+          | inr touch ↦ subst (λ (x : Act). CountsDuty q.geometry p s.words x) (sym touch.2)
+              (other_duty q.geometry s.words (Line touch.0) p (act.Or (place_of q.geometry (Line touch.0)) (line_mask q.geometry way.pa way.space)) (index_below q.geometry _ touch.0 acting.stands.shape.geometry touch.1)
+              (subst (λ (k : GeometryData). p < k.cpus) (sym way.geometry) low) (λ same. absurd cc) refl)
+        ]
       ]
     ])
 

@@ -8,7 +8,7 @@ use Rattle.gpt_descriptors.specs.declared.size.Size.{Size}
 use Rattle.gpt_descriptors.specs.Sizes.{SetupData, granule_bytes, word_bytes, size_bytes}
 use Rattle.gpt_descriptors.specs.Canonical.{canonical_word}
 use Rattle.gpt_descriptors.specs.Level0.{l1_index}
-use Rattle.gpt_descriptors.specs.Places.{GeometryData, Duty, Line, place_of, l0_words, l1_words, blocks_in_region, word_count, block_gpi_of}
+use Rattle.gpt_descriptors.specs.Places.{GeometryData, Duty, place_of, l0_words, blocks_in_region, word_count, block_gpi_of}
 pub use Rattle.gpt_descriptors.specs.Places.{table_part, generation_word}
 use Rattle.table_meaning.specs.Meaning.{TablesMean, AreCanonical}
 use Rattle.bit_locks.specs.Locks.{lock_number, lock_bit}
@@ -29,6 +29,7 @@ use Rattle.delegate_ops.specs.Deciding.{is_look, HasCause}
 use Rattle.delegate_ops.specs.Script.{granule_of_task}
 use Rattle.processor.specs.Accesses.{block_answer}
 use Rattle.core_machine.specs.Scenarios.{map_at}
+use Rattle.core_machine.specs.Lines.{AreAtRest}
 
 -- ---- transitions on one lock block
 
@@ -163,5 +164,5 @@ pub record FitsHistory (g : GeometryData) (first : List Gpi) (tasks : List (List
   -- where each call is answered no access is under way
   pub duty : AllAnswered tasks answers → (cpu : ℕ) → cpu < g.cpus
       → slice_index words (place_of g (Duty cpu)) ≡ 0
-  -- lines aren't used yet
-  pub lines : (i : ℕ) → i < l1_words g → slice_index words (place_of g (Line i)) ≡ 0
+  -- and the resident lines are those of the map and of the allowed accesses
+  pub lines : AllAnswered tasks answers → AreAtRest g words (map_after first h) h
