@@ -6,7 +6,7 @@ use Rattle.std.specs.Option.{option_map}
 use Rattle.std.proofs.lemmas.Option.{slice_get_within, get_or_from_slice_get}
 use Rattle.gpi_values.specs.declared.gpi.Space.{Space}
 use Rattle.gpt_descriptors.specs.Sizes.{size_bytes, space_bytes, tag_size_of}
-use Rattle.gpt_descriptors.specs.Places.{GeometryData, IsGeometry, WordName, IsWordName, Generation, Duty, Level1, Line, place_of, word_count, l1_words, l1_index_of, l1_place_of, line_place_of, gen_place_of, block_gpi_of}
+use Rattle.gpt_descriptors.specs.Places.{GeometryData, IsGeometry, WordName, IsWordName, Generation, Duty, Level1, Line, place_of, word_count, l1_index_of, l1_place_of, line_place_of, gen_place_of, block_gpi_of}
 use Rattle.gpt_descriptors.proofs.PlaceLemmas.{generation_named, index_within, place_below, unblocked_index}
 use Rattle.shared_words.specs.declared.act.Act.{Act}
 use Rattle.shared_words.specs.declared.act.Act.TheVariants as act

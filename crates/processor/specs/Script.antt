@@ -1,8 +1,8 @@
 -- The script of an access: its acts in their order, each with the word that it answered and the
 -- entries that it makes in the history; and what it leaves of the processor's kept walks. A processor
--- is shown to follow it. That the generations are loaded before the L1 word, and that of the word's
--- reach again after it, is this project's own order; so is that an allowed access makes its line
--- resident before it ends.
+-- is shown to follow it. That the generations are loaded before the L1 word and that of the word's
+-- reach again after it, and that an allowed access makes its line resident before its duty word is
+-- cleared, is this project's own order.
 use Rattle.std.specs.Prelude.{◌≡◌, ◌≢◌, ◌⊎◌, ℕ, ◌+◌, Bool, true, List, [], ◌∷◌, ◌++◌, length, slice_get, Option, Some, None, MatchOption}
 use Rattle.gpi_values.specs.declared.gpi.Gpi.{Gpi}
 use Rattle.gpi_values.specs.declared.gpi.Space.{Space}
