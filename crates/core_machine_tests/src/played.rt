@@ -299,11 +299,17 @@ fn accesses_are_answered_by_the_word_and_its_generation(rt: HostRuntime) -> Resu
         level: 0,
         via: Via::Still,
     });
-    let want = [
-        cold(Gpi::NonSecure, true, 7, 7),
-        cold(Gpi::NonSecure, false, 7, 7),
-        beyond,
-    ];
+    // The walk of the first access is kept, and hit by the second one.
+    let hit = Answer::Seen(Access {
+        allowed: false,
+        gpi: Gpi::NonSecure,
+        level: 1,
+        via: Via::Hit {
+            reach: Reach::Word,
+            at: 7,
+        },
+    });
+    let want = [cold(Gpi::NonSecure, true, 7, 7), hit, beyond];
     assert_eq!(rt; answers(&outcome, 0)?, want.as_slice());
     assert_eq!(rt; *outcome.words.as_slice().get(2186).ok_or("no words")?, 0);
     Ok(())
