@@ -1,16 +1,13 @@
 -- What a transition that is done leaves behind.
-use Rattle.std.proofs.Common.{◌≡◌, ◌≢◌, ◌⊎◌, ℕ, ◌∷◌, [], List, Bool, true, false, ◌&&◌, ◌||◌, not, eqb, Option, Some, None, length, set, refl, sym, ap, ◌∙◌, subst, inl, inr, if◌then◌else◌}
+use Rattle.std.proofs.Common.{◌≡◌, ◌⊎◌, ℕ, ◌∷◌, [], Bool, true, false, ◌&&◌, Option, Some, None, length, refl, sym, ap, ◌∙◌, subst, inl, inr, if◌then◌else◌}
 use Rattle.std.specs.Prelude.{slice_get, nat_lt}
 use Rattle.std.specs.List.{list_any}
-use Rattle.std.proofs.lemmas.Bool.{cases_Bool, cases_eq, eq-eqb, eqb-true}
-use Rattle.core_machine.proofs.Names.{Gpi, Size, Generations, GeometryData, Act, Task, Answer, Kept, Stage, Change, address_of, granule_of_task, idle_answer, worn_answer, AgentData, HasActs, IsAgent, task_of, took_at, made_at, Caller, holds, is_inside, HoldsIn, Scene, map_in, IsMade, number_by}
+use Rattle.std.proofs.lemmas.Bool.{cases_Bool, cases_eq, eq-eqb}
+use Rattle.core_machine.proofs.Names.{Gpi, Size, Generations, GeometryData, Act, Task, Answer, Kept, Stage, Change, granule_of_task, idle_answer, worn_answer, AgentData, HasActs, task_of, took_at, made_at, Caller, holds, is_inside, HoldsIn, Scene, map_in, IsMade}
 use Rattle.core_machine.proofs.Names.stage
 use Rattle.core_machine.proofs.Names.caller
-use Rattle.core_machine.proofs.Names.answer
 use Rattle.core_machine.proofs.Names.task
 use Rattle.core_machine.proofs.Names.size
-use Rattle.gpi_values.specs.declared.gpi.Space.{Space}
-use Rattle.gpi_values.specs.Values.{permits_of}
 use Rattle.gpt_descriptors.specs.Sizes.{granule_number}
 use Rattle.gpt_descriptors.specs.declared.entry.L1Entry.{L1Entry}
 use Rattle.gpt_descriptors.specs.declared.entry.L1Entry.TheVariants as l1
@@ -23,13 +20,13 @@ use Rattle.delegate_ops.specs.declared.stage.Change.TheVariants as change
 use Rattle.delegate_ops.specs.declared.stage.Line.{Line}
 use Rattle.delegate_ops.specs.declared.stage.Line.TheVariants as line
 use Rattle.delegate_ops.specs.Changing.{from_of}
-use Rattle.delegate_ops.specs.InnerAgents.{kept_read, after_answer, cleaned_stage, first_stage, goes_to, is_held, last_stage, loaded_stage, looked_stage, merged_stage, merging_stage, passed_stage, passing_stage, raised_stage, read_all, read_stage, split_stage, stage_after, took_under_way, waits_at}
+use Rattle.delegate_ops.specs.InnerAgents.{kept_read, cleaned_stage, first_stage, goes_to, is_held, loaded_stage, looked_stage, merging_stage, passed_stage, passing_stage, read_all, split_stage, stage_after, took_under_way, waits_at}
 use Rattle.shared_words.specs.Acts.{answer_of}
 use Rattle.core_machine.specs.InnerAgentCaller.{is_lock_of, uncleaned_at}
 use Rattle.core_machine.specs.InnerCpuCaller.{Decision}
-use Rattle.core_machine.specs.InnerCallers.{caller_next, caller_took, decided_by, made_by, uncleaned_by, unpassed_by, unraised_by}
-use Rattle.core_machine.specs.InnerSettled.{IsSettled, IsQuiet, DoneIsQuiet, QuietIsSettled, QuietStays}
-use Rattle.core_machine.specs.InnerWalks.{In, SomeHas}
+use Rattle.core_machine.specs.InnerCallers.{caller_took, decided_by, made_by, uncleaned_by, unpassed_by, unraised_by}
+use Rattle.core_machine.specs.InnerSettled.{IsQuiet, DoneIsQuiet, QuietIsSettled, QuietStays}
+use Rattle.core_machine.specs.InnerWalks.{In}
 use Rattle.core_machine.proofs.AddressLemmas.{lock_of, task_lock}
 use Rattle.core_machine.proofs.CallerLemmas.{agent_has, held_once, made_at_place}
 use Rattle.core_machine.proofs.ListLemmas.{get_set}
