@@ -2,8 +2,8 @@ ghost use Rattle.scenario_text.specs.Spelling.{WellFormed};
 
 use core_machine::{Caller, callers, geometry_of, play};
 use gpi_values::Gpi;
-use gpt_descriptors::{Generations, Reach, Size};
-use history::{Access, Answer, Outcome, Via};
+use gpt_descriptors::{Generations, Size};
+use history::{Answer, Outcome};
 use region_plan::Plan;
 use scenario_text::{Scenario, parse};
 use shared_words::Act;
@@ -34,13 +34,18 @@ fn text(alloc: Global, max: u64, first: u64, gpi: &str, rest: &str) -> Result<St
     )
 }
 
-/// What playing such a scenario leaves.
-fn played_at(alloc: Global, max: u64, first: u64, gpi: &str, rest: &str) -> Result<Outcome, Fail> {
-    let text = text(alloc, max, first, gpi, rest)?;
+/// What playing the scenario of this text leaves.
+pub fn played_whole(alloc: Global, text: &str) -> Result<Outcome, Fail> {
     match parse(alloc, text.as_bytes()) {
         Ok(scenario) => Ok(played(alloc, &scenario).ok_or("no outcome")?),
         Err(_) => Err("no scenario")?,
     }
+}
+
+/// What playing such a scenario leaves.
+fn played_at(alloc: Global, max: u64, first: u64, gpi: &str, rest: &str) -> Result<Outcome, Fail> {
+    let text = text(alloc, max, first, gpi, rest)?;
+    played_whole(alloc, text.as_str())
 }
 
 /// What playing such a scenario without contiguous entries leaves.
@@ -49,12 +54,12 @@ fn played_text(alloc: Global, first: u64, gpi: &str, rest: &str) -> Result<Outco
 }
 
 /// What the calls of a caller were answered.
-fn answers(outcome: &Outcome, caller: usize) -> Result<&[Answer], Fail> {
+pub fn answers(outcome: &Outcome, caller: usize) -> Result<&[Answer], Fail> {
     let answers = outcome.answers.as_slice();
     Ok(answers.get(caller).ok_or("no caller")?.as_slice())
 }
 
-fn done(generation: u64) -> Answer {
+pub fn done(generation: u64) -> Answer {
     Answer::Done(Generations {
         two: generation,
         thirty_two: generation,
@@ -275,115 +280,5 @@ fn callers_begin_without_answers(rt: HostRuntime) -> Result<(), Fail> {
     let second = made.get(2).ok_or("no processor")?;
     assert_eq!(rt; second.next(), Some(Act::Store(2187, 1)));
     assert!(rt; second.answers().is_empty());
-    Ok(())
-}
-
-/// A cold access at the 64 KB around a granule.
-fn cold(gpi: Gpi, allowed: bool, lo: u64, hi: u64) -> Answer {
-    let reach = Reach::Word;
-    Answer::Seen(Access {
-        allowed,
-        gpi,
-        level: 1,
-        via: Via::Cold { reach, lo, hi },
-    })
-}
-
-#[test]
-fn accesses_are_answered_by_the_word_and_its_generation(rt: HostRuntime) -> Result<(), Fail> {
-    let rest = "cpu\nlook 0x0 nonsecure\nlook 0x0 realm\nlook 0x40000000 root\nturn 0 100\n";
-    let outcome = played_text(rt.alloc(), 7, "nonsecure", rest)?;
-    let beyond = Answer::Seen(Access {
-        allowed: true,
-        gpi: Gpi::Any,
-        level: 0,
-        via: Via::Still,
-    });
-    let want = [
-        cold(Gpi::NonSecure, true, 7, 7),
-        cold(Gpi::NonSecure, false, 7, 7),
-        beyond,
-    ];
-    assert_eq!(rt; answers(&outcome, 0)?, want.as_slice());
-    assert_eq!(rt; *outcome.words.as_slice().get(2186).ok_or("no words")?, 0);
-    Ok(())
-}
-
-#[test]
-fn an_access_may_be_cut_with_its_duty_word_set(rt: HostRuntime) -> Result<(), Fail> {
-    let rest = "agent\ncpu\nlook 0x40000000 root\nlook 0x0 nonsecure\nturn 1 6\n";
-    let outcome = played_text(rt.alloc(), 0, "nonsecure", rest)?;
-    assert_eq!(rt; answers(&outcome, 1)?.len(), 1);
-    assert_eq!(rt; *outcome.words.as_slice().get(2186).ok_or("no words")?, 1);
-    Ok(())
-}
-
-#[test]
-fn an_access_sees_a_change_before_or_after_its_word(rt: HostRuntime) -> Result<(), Fail> {
-    // The change is made between the generations and the word, and after the word; its generations
-    // are raised before the access loads the one of its word again.
-    let before =
-        "agent\ndelegate 0x0 realm\ncpu\nlook 0x0 realm\nturn 0 6\nturn 1 4\nturn 0 4\nturn 1 3\n";
-    let outcome = played_text(rt.alloc(), 0, "nonsecure", before)?;
-    assert_eq!(rt;
-        answers(&outcome, 1)?,
-        [cold(Gpi::Realm, true, 0, 1)].as_slice()
-    );
-    let after =
-        "agent\ndelegate 0x0 realm\ncpu\nlook 0x0 realm\nturn 0 6\nturn 1 5\nturn 0 4\nturn 1 2\n";
-    let outcome = played_text(rt.alloc(), 0, "nonsecure", after)?;
-    assert_eq!(rt;
-        answers(&outcome, 1)?,
-        [cold(Gpi::NonSecure, false, 0, 1)].as_slice()
-    );
-    Ok(())
-}
-
-/// A delegate beside an access that has set its duty word, 2186, before the delegate's first act.
-const BESIDE_AN_ACCESS: &str =
-    "agent\ndelegate 0x0 realm\ncpu\nlook 0x0 nonsecure\nturn 1 1\nturn 0 100\n";
-
-#[test]
-fn a_barrier_waits_for_an_access_from_before(rt: HostRuntime) -> Result<(), Fail> {
-    let outcome = played_text(rt.alloc(), 0, "nonsecure", BESIDE_AN_ACCESS)?;
-    assert!(rt; answers(&outcome, 0)?.is_empty());
-    // It holds its lock, has raised its generations, and hasn't cleared the duty word.
-    let words = outcome.words.as_slice();
-    assert_eq!(rt; *words.get(0).ok_or("no words")?, 1);
-    for place in [2, 2050, 2178, 2186] {
-        assert_eq!(rt; *words.get(place).ok_or("no words")?, 1);
-    }
-    Ok(())
-}
-
-#[test]
-fn a_barrier_passes_when_the_access_is_over(rt: HostRuntime) -> Result<(), Fail> {
-    // The rest of the access; and then the load of its duty word, the last clean and the unlock.
-    for (turns, count) in [(2, 0), (3, 1)] {
-        let rest = format!(in rt.alloc(); "{BESIDE_AN_ACCESS}turn 1 6\nturn 0 {turns}\n")?;
-        let outcome = played_text(rt.alloc(), 0, "nonsecure", &rest)?;
-        assert_eq!(rt;
-            answers(&outcome, 1)?,
-            [cold(Gpi::Realm, false, 1, 1)].as_slice()
-        );
-        assert_eq!(rt; answers(&outcome, 0)?.len(), count);
-    }
-    Ok(())
-}
-
-#[test]
-fn an_undelegate_waits_behind_each_of_its_changes(rt: HostRuntime) -> Result<(), Fail> {
-    // Two processors. The first change is behind their duty words, and so is the second one.
-    let rest =
-        "agent\nundelegate 0x0 realm\ncpu\nlook 0x0 realm\ncpu\nlook 0x0 realm\nlook 0x0 realm\n";
-    for (lines, count) in [
-        ("turn 2 1\nturn 0 100\nturn 1 1\nturn 2 6\nturn 0 100\n", 0),
-        ("turn 2 1\nturn 0 100\nturn 2 6\nturn 0 100\n", 1),
-        ("turn 2 7\nturn 0 13\nturn 2 1\nturn 0 100\n", 0),
-    ] {
-        let rest = format!(in rt.alloc(); "{rest}{lines}")?;
-        let outcome = played_text(rt.alloc(), 0, "realm", &rest)?;
-        assert_eq!(rt; answers(&outcome, 0)?.len(), count, "{lines}");
-    }
     Ok(())
 }
