@@ -1,7 +1,8 @@
 #!/usr/bin/env bash
 # Processor time of the turns that `PROGRAM play` plays: of an agent that waits at a held lock, of 2 and
 # of many agents that wait, of agents that make whole transitions, with few regions and calls and with
-# many, and of an agent that splits and merges 512 MB.
+# many, of processors whose accesses walk the tables and of one whose accesses are hit, and of an agent
+# that splits and merges 512 MB.
 #
 #     [YARDSTICK=FILE.c] [TURNS=TURNS_PROGRAM] bench/turns.sh PROGRAM [RUNS]
 #
@@ -13,10 +14,16 @@
 # is 1. Turns that change nothing end their line at once, so that some of these lines take no time. The last of these take a few milliseconds: run this where nothing else runs.
 #
 # TURNS names the program of crates/turns_bench, which plays a scenario as PROGRAM does and prints no report: the
-# acts of whole transitions are timed by it too, without the texts of their answers.
+# acts of whole transitions are timed by it too, without the texts of their answers, and those of accesses by it alone.
+#
+# Accesses walk the tables each time where a processor keeps one walk and goes between two words. They are hit where it
+# goes on with one word; that walk is the oldest of a full ring, of 8 walks and of 64, so that each access looks through
+# the whole ring.
 #
 # YARDSTICK names a C program that measures raw work on this machine: its line `act`, nanoseconds for one act of whole
-# transitions, is printed below those of TURNS; where one costs more than 2.5 times as much, the status is 1. Its line
+# transitions, is printed below those of TURNS; where one costs more than 2.5 times as much, the status is 1. So are
+# its lines `access` and `search`, for one act of accesses that are hit by the oldest walk of 8 and of 64: there an access
+# has one act more, that of its line. Its line
 # `store`, nanoseconds for one
 # store of splitting and merging 512 MB, is printed below those of the program. Of a pair in one turn line all
 # acts are counted, most of which are stores; where one costs more than twice as much, the status is 1.
@@ -46,11 +53,16 @@ folder=$(mktemp -d)
 readonly folder
 trap 'rm -rf "$folder"' EXIT
 
-# The head of a scenario, without contiguous entries where `max` isn't set. The first gigabyte is Non-secure, in
-# $1 equal regions (1 if left out).
+# The first lines of a scenario, without contiguous entries where `max` isn't set, and with rings of 8 walks where `ring`
+# isn't.
+setup_text() {
+    printf '%s\n' 'gpt 1' 'space 4' "max ${max:-0}" 'locks 1' 'first 0' "ring ${ring:-8}" 'tables 1' 'base 0x80000000'
+}
+
+# The head of a scenario. The first gigabyte is Non-secure, in $1 equal regions (1 if left out).
 head_text() {
     local i step=$((gigabyte / ${1:-1}))
-    printf '%s\n' 'gpt 1' 'space 4' "max ${max:-0}" 'locks 1' 'first 0' 'ring 8' 'tables 1' 'base 0x80000000'
+    setup_text
     for ((i = 0; i < ${1:-1}; i++)); do
         printf 'region 0x%x 0x%x granule nonsecure\n' $((i * step)) "$step"
     done
@@ -203,32 +215,52 @@ hold() {
     }' || failed=1
 }
 
-# A scenario of $1 processors with $2 accesses each, each processor at a granule of its own from the address $3 on.
+# A scenario of $1 processors with $2 accesses each, each processor at a granule of its own from the address $3 on and at the
+# one 64 KB after it by turns. Each keeps one walk, so that none is hit.
 accesses() {
-    head_text
+    ring=1 head_text
     awk -v processors="$1" -v looks="$2" -v first="$3" 'BEGIN {
         for (i = 0; i < processors; i++) {
             print "cpu"
-            address = sprintf("0x%x", first + i * 4096)
-            for (k = 0; k < looks; k++) printf "look %s nonsecure\n", address
+            for (k = 0; k < looks; k++) printf "look 0x%x nonsecure\n", first + i * 4096 + k % 2 * 65536
         }
+    }'
+}
+
+# A scenario of a processor that fills its ring of $1 walks, and then has $2 accesses by the oldest of them. The first
+# gigabyte is described in the way $3 and the second in the way $4: where the first is a `block`, no access has an act.
+hits() {
+    ring=$1 setup_text
+    printf 'region 0x0 0x40000000 %s root\nregion 0x40000000 0x40000000 %s root\ncpu\n' "$3" "$4"
+    awk -v ring="$1" -v looks="$2" 'BEGIN {
+        for (i = 0; i < ring; i++) printf "look 0x%x root\n", i * 65536
+        for (k = 0; k < looks; k++) print "look 0x0 root"
     }'
 }
 
 # Acts without their report: less the same scenario with one turn, and less one with as many answers without acts (calls
 # that are answered `inval`, and accesses at the second gigabyte, an L0 block), which touches the same memory for the
-# first time. The second is what is held against the yardstick, which keeps no answers. An access has 26 bytes.
+# first time. The second is what is held against the yardstick, which keeps no answers. An access has 26 bytes, one that
+# is hit 14, and one that fills a ring at most 19.
 if [ -n "${TURNS:-}" ]; then
-    readonly one_looks=$(((most_bytes - 600) / 26)) look_acts=7 inside=$((1 << 28))
+    readonly one_looks=$(((most_bytes - 600) / 26)) look_acts=7 hit_acts=3 inside=$((1 << 28))
+    readonly hit_looks=$(((most_bytes - 600 - 64 * 19) / 14))
     readonly few_looks=$((one_looks / 2)) many_looks=$((one_looks / 32 - 1))
     accesses 1 "$one_looks" "$inside" | scenario access "turn 0 $((one_looks * look_acts))"
     accesses 1 "$one_looks" "$gigabyte" | scenario idle_access 'turn 0 1'
     accesses 2 "$few_looks" "$inside" | scenario accesses2 "round 1 $((few_looks * look_acts))"
     accesses 32 "$many_looks" "$inside" | scenario accesses32 "round 1 $((many_looks * look_acts))"
+    for size in 8 64; do
+        hits "$size" "$hit_looks" granule block | scenario "hits$size" "turn 0 $((size * look_acts + hit_looks * hit_acts))"
+        hits "$size" "$hit_looks" block granule | scenario "idle_hits$size" 'turn 0 1'
+    done
     times=$(least_by "$TURNS" one=0 one.one=0 one_refused=0 shared=0 shared.one=0 shared_refused=0 \
-        access=0 access.one=0 idle_access=0 accesses2=0 accesses2.one=0 accesses32=0 accesses32.one=0)
+        access=0 access.one=0 idle_access=0 accesses2=0 accesses2.one=0 accesses32=0 accesses32.one=0 \
+        hits8=0 hits8.one=0 idle_hits8=0 hits64=0 hits64.one=0 idle_hits64=0)
     read -r one one_one one_idle shared shared_one shared_idle \
-        access access_one access_idle by2 by2_one by32 by32_one <<<"$times"
+        access access_one access_idle by2 by2_one by32 by32_one \
+        hit8 hit8_one hit8_idle hit64 hit64_one hit64_idle <<<"$times"
+    readonly hit8_acts=$((8 * look_acts + hit_looks * hit_acts)) hit64_acts=$((64 * look_acts + hit_looks * hit_acts))
     readonly access_acts=$((one_looks * look_acts))
     readonly by2_acts=$((2 * few_looks * look_acts)) by32_acts=$((32 * many_looks * look_acts))
     echo
@@ -237,16 +269,22 @@ if [ -n "${TURNS:-}" ]; then
     row '  less as many answers' "$one_acts" $((one - one_idle))
     row "32 agents, $shared_pairs pairs each" "$shared_acts" $((shared - shared_one))
     row '  less as many answers' "$shared_acts" $((shared - shared_idle))
-    row "accesses: 1 processor, $one_looks" "$access_acts" $((access - access_one))
+    row "accesses that walk: 1 processor, $one_looks" "$access_acts" $((access - access_one))
     row '  less as many answers' "$access_acts" $((access - access_idle))
     row "2 processors, $few_looks each, in turns" "$by2_acts" $((by2 - by2_one))
     row "32 processors, $many_looks each, in turns" "$by32_acts" $((by32 - by32_one))
+    row "accesses that hit the oldest of 8, $hit_looks" "$hit8_acts" $((hit8 - hit8_one))
+    row '  less as many answers' "$hit8_acts" $((hit8 - hit8_idle))
+    row "accesses that hit the oldest of 64, $hit_looks" "$hit64_acts" $((hit64 - hit64_one))
+    row '  less as many answers' "$hit64_acts" $((hit64 - hit64_idle))
     compare 'an act of 32 agents to one of 1 agent' $((shared - shared_one)) "$shared_acts" $((one - one_one)) "$one_acts"
     compare 'an act of 32 processors to one of 2' $((by32 - by32_one)) "$by32_acts" $((by2 - by2_one)) "$by2_acts"
     if [ -n "${YARDSTICK:-}" ]; then
         hold act 'an act of 1 agent' $((one - one_idle)) "$one_acts" "$most_act_ratio"
         hold act 'an act of 32 agents' $((shared - shared_idle)) "$shared_acts" "$most_act_ratio"
-        hold act 'an act of 1 processor' $((access - access_idle)) "$access_acts" "$most_act_ratio"
+        hold act 'an act of 1 processor that walks' $((access - access_idle)) "$access_acts" "$most_act_ratio"
+        hold access 'an act of hits in a ring of 8' $((hit8 - hit8_idle)) "$hit8_acts" "$most_act_ratio"
+        hold search 'an act of hits in a ring of 64' $((hit64 - hit64_idle)) "$hit64_acts" "$most_act_ratio"
     fi
 fi
 

@@ -2,4 +2,6 @@
 #![tactic(auto)]
 
 #[cfg(test)]
+mod looked;
+#[cfg(test)]
 mod played;

@@ -2,8 +2,8 @@ ghost use Rattle.scenario_text.specs.Spelling.{WellFormed};
 
 use core_machine::{Caller, callers, geometry_of, play};
 use gpi_values::Gpi;
-use gpt_descriptors::{Generations, Reach, Size};
-use history::{Access, Answer, Outcome, Via};
+use gpt_descriptors::{Generations, Size};
+use history::{Answer, Outcome};
 use region_plan::Plan;
 use scenario_text::{Scenario, parse};
 use shared_words::Act;
@@ -34,13 +34,18 @@ fn text(alloc: Global, max: u64, first: u64, gpi: &str, rest: &str) -> Result<St
     )
 }
 
-/// What playing such a scenario leaves.
-fn played_at(alloc: Global, max: u64, first: u64, gpi: &str, rest: &str) -> Result<Outcome, Fail> {
-    let text = text(alloc, max, first, gpi, rest)?;
+/// What playing the scenario of this text leaves.
+pub fn played_whole(alloc: Global, text: &str) -> Result<Outcome, Fail> {
     match parse(alloc, text.as_bytes()) {
         Ok(scenario) => Ok(played(alloc, &scenario).ok_or("no outcome")?),
         Err(_) => Err("no scenario")?,
     }
+}
+
+/// What playing such a scenario leaves.
+fn played_at(alloc: Global, max: u64, first: u64, gpi: &str, rest: &str) -> Result<Outcome, Fail> {
+    let text = text(alloc, max, first, gpi, rest)?;
+    played_whole(alloc, text.as_str())
 }
 
 /// What playing such a scenario without contiguous entries leaves.
@@ -49,12 +54,12 @@ fn played_text(alloc: Global, first: u64, gpi: &str, rest: &str) -> Result<Outco
 }
 
 /// What the calls of a caller were answered.
-fn answers(outcome: &Outcome, caller: usize) -> Result<&[Answer], Fail> {
+pub fn answers(outcome: &Outcome, caller: usize) -> Result<&[Answer], Fail> {
     let answers = outcome.answers.as_slice();
     Ok(answers.get(caller).ok_or("no caller")?.as_slice())
 }
 
-fn done(generation: u64) -> Answer {
+pub fn done(generation: u64) -> Answer {
     Answer::Done(Generations {
         two: generation,
         thirty_two: generation,
@@ -287,62 +292,6 @@ fn cold(gpi: Gpi, allowed: bool, lo: u64, hi: u64) -> Answer {
         level: 1,
         via: Via::Cold { reach, lo, hi },
     })
-}
-
-#[test]
-fn accesses_are_answered_by_the_word_and_its_generation(rt: HostRuntime) -> Result<(), Fail> {
-    let rest = "cpu\nlook 0x0 nonsecure\nlook 0x0 realm\nlook 0x40000000 root\nturn 0 100\n";
-    let outcome = played_text(rt.alloc(), 7, "nonsecure", rest)?;
-    let beyond = Answer::Seen(Access {
-        allowed: true,
-        gpi: Gpi::Any,
-        level: 0,
-        via: Via::Still,
-    });
-    // The walk of the first access is kept, and hit by the second one.
-    let hit = Answer::Seen(Access {
-        allowed: false,
-        gpi: Gpi::NonSecure,
-        level: 1,
-        via: Via::Hit {
-            reach: Reach::Word,
-            at: 7,
-        },
-    });
-    let want = [cold(Gpi::NonSecure, true, 7, 7), hit, beyond];
-    assert_eq!(rt; answers(&outcome, 0)?, want.as_slice());
-    assert_eq!(rt; *outcome.words.as_slice().get(2186).ok_or("no words")?, 0);
-    Ok(())
-}
-
-#[test]
-fn an_access_may_be_cut_with_its_duty_word_set(rt: HostRuntime) -> Result<(), Fail> {
-    let rest = "agent\ncpu\nlook 0x40000000 root\nlook 0x0 nonsecure\nturn 1 6\n";
-    let outcome = played_text(rt.alloc(), 0, "nonsecure", rest)?;
-    assert_eq!(rt; answers(&outcome, 1)?.len(), 1);
-    assert_eq!(rt; *outcome.words.as_slice().get(2186).ok_or("no words")?, 1);
-    Ok(())
-}
-
-#[test]
-fn an_access_sees_a_change_before_or_after_its_word(rt: HostRuntime) -> Result<(), Fail> {
-    // The change is made between the generations and the word, and after the word; its generations
-    // are raised before the access loads the one of its word again.
-    let before =
-        "agent\ndelegate 0x0 realm\ncpu\nlook 0x0 realm\nturn 0 6\nturn 1 4\nturn 0 4\nturn 1 3\n";
-    let outcome = played_text(rt.alloc(), 0, "nonsecure", before)?;
-    assert_eq!(rt;
-        answers(&outcome, 1)?,
-        [cold(Gpi::Realm, true, 0, 1)].as_slice()
-    );
-    let after =
-        "agent\ndelegate 0x0 realm\ncpu\nlook 0x0 realm\nturn 0 6\nturn 1 5\nturn 0 4\nturn 1 2\n";
-    let outcome = played_text(rt.alloc(), 0, "nonsecure", after)?;
-    assert_eq!(rt;
-        answers(&outcome, 1)?,
-        [cold(Gpi::NonSecure, false, 0, 1)].as_slice()
-    );
-    Ok(())
 }
 
 /// A delegate beside an access that has set its duty word, 2186, before the delegate's first act.
