@@ -49,7 +49,7 @@ fn played_at(alloc: Global, max: u64, first: u64, gpi: &str, rest: &str) -> Resu
 }
 
 /// What playing such a scenario without contiguous entries leaves.
-fn played_text(alloc: Global, first: u64, gpi: &str, rest: &str) -> Result<Outcome, Fail> {
+pub fn played_text(alloc: Global, first: u64, gpi: &str, rest: &str) -> Result<Outcome, Fail> {
     played_at(alloc, 0, first, gpi, rest)
 }
 
