@@ -46,7 +46,11 @@ fn an_undelegate_waits_behind_each_of_its_changes(rt: HostRuntime) -> Result<(),
         "agent\nundelegate 0x0 realm\ncpu\nlook 0x0 realm\ncpu\nlook 0x0 realm\nlook 0x0 realm\n";
     for (lines, count, raised) in [
         ("turn 2 1\nturn 0 100\n", 0, 1),
-        ("turn 2 1\nturn 0 100\nturn 1 1\nturn 2 6\nturn 0 100\n", 0, 2),
+        (
+            "turn 2 1\nturn 0 100\nturn 1 1\nturn 2 6\nturn 0 100\n",
+            0,
+            2,
+        ),
         ("turn 2 1\nturn 0 100\nturn 2 6\nturn 0 100\n", 1, 2),
         ("turn 2 8\nturn 0 13\nturn 2 1\nturn 0 100\n", 0, 2),
     ] {
@@ -62,7 +66,8 @@ fn an_undelegate_waits_behind_each_of_its_changes(rt: HostRuntime) -> Result<(),
 fn an_allowed_access_makes_its_line_resident(rt: HostRuntime) -> Result<(), Fail> {
     // Of two accesses that walk and one that is hit, and one that isn't allowed: the line words of the
     // first 64 KB and of the second.
-    let calls = "cpu\nlook 0x3fff nonsecure\nlook 0x0 realm\nlook 0x1f000 nonsecure\nlook 0x4000 nonsecure\n";
+    let calls =
+        "cpu\nlook 0x3fff nonsecure\nlook 0x0 realm\nlook 0x1f000 nonsecure\nlook 0x4000 nonsecure\n";
     for (turns, first, second) in [
         (6, 0, 0),
         (7, 0x2000, 0),
