@@ -15,13 +15,9 @@ use Rattle.gpt_descriptors.specs.Sizes.{space_bytes}
 use Rattle.gpt_descriptors.specs.Places.{block_gpi_of}
 use Rattle.history.specs.Legality.{is_seen, is_still}
 use Rattle.delegate_ops.specs.Deciding.{is_look}
-use Rattle.gpi_values.specs.Values.{permits_of}
-use Rattle.gpt_descriptors.specs.declared.size.Reach.{Reach}
 use Rattle.gpt_descriptors.specs.declared.size.Reach.TheVariants as reach
 use Rattle.walk_cache.specs.declared.walk.Walk.{Walk}
 use Rattle.history.specs.declared.call.Access.{Access}
-use Rattle.history.specs.declared.call.OldWalk.{OldWalk}
-use Rattle.history.specs.declared.call.Via.{Via}
 use Rattle.history.specs.declared.call.Via.TheVariants as via
 use Rattle.history.specs.Stamps.{walked}
 use Rattle.processor.specs.Accesses.{IsAccess, block_answer, looked_entry, table_access, walk_gpi}
@@ -30,7 +26,7 @@ use Rattle.processor.specs.InnerProgress as stage
 use Rattle.processor.specs.InnerEntries.{decided_entries, entries_at, own_entries}
 use Rattle.processor.specs.InnerCpus.{task_of}
 use Rattle.processor.specs.InnerScript.{HasWalked}
-use Rattle.processor.specs.Script.{AreCallEvents, Decides, IsCall, IsLook}
+use Rattle.processor.specs.Script.{AreCallEvents, IsCall, IsLook}
 use Rattle.core_machine.specs.Facts.{IsAccessAnswer, is_walked}
 use Rattle.core_machine.proofs.AddressLemmas.{granule_within}
 use Rattle.core_machine.proofs.CpuActs.{answers_seen}

@@ -1,17 +1,17 @@
 -- The barrier after a change, and the cleaning of the lines of its granule before and after it.
-use Rattle.std.proofs.Common.{◌≡◌, ℕ, ◌/◌, ◌<◌, ◌∷◌, [], List, true, eqb, Some, None, length, map, set, refl, sym, ap, ◌∙◌, subst, arith, inl, inr, append-nil, ◌≢◌, ◌⊎◌, ◌+◌, ◌*◌, ◌++◌, false, not, ◌&&◌, Option}
+use Rattle.std.proofs.Common.{◌≡◌, ℕ, ◌/◌, ◌<◌, ◌∷◌, [], List, true, eqb, Some, None, length, map, set, refl, sym, ap, ◌∙◌, subst, arith, inl, inr, append-nil, false}
 use Rattle.std.specs.Prelude.{slice_index}
 use Rattle.std.specs.Int.Bits.{bit_and}
-use Rattle.std.proofs.lemmas.Bool.{cases_Bool, cases_eq}
-use Rattle.std.proofs.lemmas.List.{get_or-set_same, map-set}
+use Rattle.std.proofs.lemmas.Bool.{cases_Bool}
+use Rattle.std.proofs.lemmas.List.{map-set}
 use Rattle.std.proofs.lemmas.Bool.{eqb-true}
-use Rattle.core_machine.proofs.Names.{Gpi, Size, Generations, size_bytes, GeometryData, Duty, Line, WordName, place_of, l1_words, l1_index_of, Act, Holder, apart_by, AreWords, step_of, Task, Answer, Change, Kept, Stage, address_of, granule_of_task, AgentData, IsStage, goes_to, took_at, entries_at, HoldsIn, Scene, scene_after, map_in, IsCounted, IsMade, is_inside, SeesGeneration, SeesAt, coming_at, known_at, holder_by}
+use Rattle.core_machine.proofs.Names.{Gpi, Size, Generations, size_bytes, GeometryData, Duty, Line, place_of, l1_words, l1_index_of, Act, Holder, apart_by, AreWords, step_of, Task, Answer, Change, Kept, Stage, address_of, granule_of_task, AgentData, IsStage, goes_to, took_at, entries_at, HoldsIn, Scene, scene_after, map_in, IsCounted, IsMade, is_inside, SeesGeneration, SeesAt, coming_at, known_at, holder_by}
 use Rattle.core_machine.proofs.Names.act
 use Rattle.core_machine.proofs.Names.task
 use Rattle.core_machine.proofs.Names.stage
 use Rattle.core_machine.proofs.Names.caller
 use Rattle.gpt_descriptors.specs.Places.{line_place_of}
-use Rattle.gpt_descriptors.proofs.PlaceLemmas.{generation_named, index_within, place_below}
+use Rattle.gpt_descriptors.proofs.PlaceLemmas.{generation_named, index_within}
 use Rattle.table_meaning.proofs.StepLemmas.{holder_steps}
 use Rattle.invalidate.specs.Barrier.{BarrierData, next_load, one_passed}
 use Rattle.invalidate.specs.Duty.{barrier_load}

@@ -1,13 +1,13 @@
 -- What a walk covers: the region whose generation is its tag, and granules to which its word gives the map's GPI.
-use Rattle.std.proofs.Common.{◌≡◌, ℕ, ◌+◌, ◌*◌, ◌/◌, ◌%◌, ◌<◌, ◌≤◌, true, Option, Some, None, refl, sym, ap, ◌∙◌, subst, arith}
+use Rattle.std.proofs.Common.{◌≡◌, ℕ, ◌*◌, ◌/◌, true, Option, Some, None, refl, sym, ap, ◌∙◌, subst, arith}
 use Rattle.std.specs.Option.{option_map}
-use Rattle.core_machine.proofs.Names.{Gpi, Size, GeometryData, SetupData, granule_bytes, size_bytes, words_of, canonical_word, word_gpi}
+use Rattle.core_machine.proofs.Names.{Gpi, Size, SetupData, size_bytes, words_of, canonical_word, word_gpi}
 use Rattle.core_machine.proofs.Names.l1
 use Rattle.core_machine.proofs.Names.size
 use Rattle.gpt_descriptors.specs.declared.size.Reach.{Reach}
 use Rattle.gpt_descriptors.specs.declared.size.Reach.TheVariants as reach
 use Rattle.gpt_descriptors.specs.declared.entry.L1Entry.{L1Entry}
-use Rattle.gpt_descriptors.specs.Sizes.{granule_number, place_in_word, reach_with, tag_size_of, word_bytes}
+use Rattle.gpt_descriptors.specs.Sizes.{granule_number, place_in_word, reach_with, tag_size_of}
 use Rattle.gpt_descriptors.specs.Entries.{l1_entry, word_reach}
 use Rattle.gpt_descriptors.proofs.SizeLemmas.{granule_is, word_is}
 use Rattle.gpt_descriptors.proofs.MeaningLemmas.{canonical_covers}

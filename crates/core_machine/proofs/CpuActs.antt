@@ -2,7 +2,6 @@
 use Rattle.std.proofs.Common.{◌≡◌, ◌≢◌, ℕ, zero, suc, ◌+◌, ◌*◌, ◌/◌, ◌<◌, ◌≤◌, ◌⊎◌, ◌++◌, ◌∷◌, [], List, map, true, false, eqb, Option, Some, None, length, drop, set, refl, sym, ap, ◌∙◌, subst, arith, inl, inr, append-nil, ◌||◌, Bool}
 use Rattle.std.specs.Prelude.{slice_get, slice_index, is_some, MatchOption}
 use Rattle.std.specs.List.{count_by}
-use Rattle.std.specs.Option.{option_map}
 use Rattle.std.proofs.lemmas.List.{set-get_or, get_or-set_same}
 use Rattle.alias_clean.specs.Lines.{line_mask, touch_of}
 use Rattle.delegate_ops.specs.InnerAgents as agents
@@ -672,9 +671,11 @@ starting_touching g (Some task.Unknown) = refl
 
 leave_keeps : {s : Scene} {c : ℕ} {q : CpuData} {pa : ℕ} {space : Space} (access : Access) → Accessing s c q pa space (stage.Leaving access) → AccessKeeps s c q pa space (stage.Leaving access) (off_act q.geometry q.number)
 leave_keeps {s = s} {c = c} {q = q} access acting =
-    let after = after_answer (cpu_at q (stage.Leaving access)) (answer.Seen access) in
-    (tt, store_quiet acting after 0 (acting.made 0 tt) refl refl (acting.own 0 ∙ append-nil _) (starting_loads q.geometry (set s.words (place_of q.geometry (Duty q.number)) 0) (task_of after)) (answered_stamped access acting) (λ w has. has)
-    (λ d has. absurd (subst (In d) (starting_decided q.geometry (task_of after)) has)) (starting_touching q.geometry (task_of after)))
+    let after = after_answer (cpu_at q (stage.Leaving access)) (answer.Seen access) in (
+      tt,
+      store_quiet acting after 0 (acting.made 0 tt) refl refl (acting.own 0 ∙ append-nil _) (starting_loads q.geometry (set s.words (place_of q.geometry (Duty q.number)) 0) (task_of after)) (answered_stamped access acting) (λ w has. has)
+          (λ d has. absurd (subst (In d) (starting_decided q.geometry (task_of after)) has)) (starting_touching q.geometry (task_of after)),
+    )
 
 -- ---- the touch
 

@@ -1,8 +1,7 @@
 -- Decided accesses: what their answers, their stages and their lists are.
-use Rattle.std.proofs.Common.{◌≡◌, ℕ, ◌⊎◌, ◌++◌, ◌∷◌, [], List, Bool, true, false, ◌&&◌, eqb, Option, Some, None, refl, sym, ap, ◌∙◌, subst, inl, inr, if◌then◌else◌}
+use Rattle.std.proofs.Common.{◌≡◌, ℕ, ◌∷◌, [], List, Bool, true, false, eqb, Option, Some, None, refl, sym, ap, ◌∙◌, subst, inl, inr, if◌then◌else◌}
 use Rattle.std.proofs.lemmas.Bool.{cases_Bool, and_parts, eqb-true, eq-eqb}
-use Rattle.core_machine.proofs.Names.{Gpi, GeometryData, Entry, Task, Caller, is_due_at, open_by}
-use Rattle.core_machine.proofs.Names.caller
+use Rattle.core_machine.proofs.Names.{Gpi, GeometryData, Entry, Task}
 use Rattle.core_machine.proofs.Names.task
 use Rattle.gpi_values.specs.declared.gpi.Space.{Space}
 use Rattle.gpi_values.specs.Values.{permits_of}

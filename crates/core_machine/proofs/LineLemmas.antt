@@ -1,11 +1,11 @@
 -- Line words: what a touch and a clean leave of the lines of all granules.
-use Rattle.std.proofs.Common.{◌≡◌, ◌≢◌, ℕ, ◌/◌, ◌%◌, ◌<◌, List, Bool, true, false, not, ◌&&◌, ◌||◌, eqb, Option, Some, None, length, set, refl, sym, ap, ◌∙◌, subst, arith, inl, inr}
+use Rattle.std.proofs.Common.{◌≡◌, ◌≢◌, ℕ, ◌/◌, ◌%◌, ◌<◌, List, Bool, true, false, not, ◌&&◌, ◌||◌, eqb, Option, Some, None, length, refl, sym, ap, ◌∙◌, subst, arith, inl, inr}
 use Rattle.std.specs.Prelude.{slice_index}
 use Rattle.std.specs.Option.{option_map}
 use Rattle.std.specs.Int.{bit_not, w64}
-use Rattle.std.proofs.lemmas.Bool.{cases_Bool, cases_eq, eqb-true, eq-eqb, ne_eqb, and_parts}
+use Rattle.std.proofs.lemmas.Bool.{cases_eq, eqb-true, eq-eqb, ne_eqb, and_parts}
 use Rattle.std.proofs.lemmas.List.{get_or-set_other, get_or-set_same}
-use Rattle.core_machine.proofs.Names.{Gpi, GeometryData, IsGeometry, Line, l0_words, l1_words, l1_index, l1_index_of, place_of, word_count, Act, place_in, after_act}
+use Rattle.core_machine.proofs.Names.{GeometryData, IsGeometry, Line, l0_words, l1_words, l1_index, l1_index_of, place_of, word_count, Act, place_in, after_act}
 use Rattle.core_machine.proofs.Names.act
 use Rattle.gpi_values.specs.declared.gpi.Space.{Space}
 use Rattle.gpi_values.specs.declared.gpi.Space.TheVariants as space

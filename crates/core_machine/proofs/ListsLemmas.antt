@@ -1,5 +1,5 @@
 -- The lists of an agent by its stage: what isn't raised isn't passed, and what isn't passed isn't cleaned.
-use Rattle.std.proofs.Common.{◌≡◌, ℕ, ◌∷◌, [], List, true, Option, Some, None, inl, inr, refl}
+use Rattle.std.proofs.Common.{ℕ, [], Option, Some, None, inl, inr}
 use Rattle.core_machine.proofs.Names.{Gpi, Size, GeometryData, Task, Stage, is_due_at}
 use Rattle.core_machine.proofs.Names.stage
 use Rattle.std.specs.Prelude.{nat_lt}

@@ -1,9 +1,8 @@
 -- Decided accesses and resident lines: what a step of one caller leaves of them.
-use Rattle.std.proofs.Common.{◌≡◌, ◌≢◌, ℕ, ◌⊎◌, ◌++◌, ◌∷◌, [], List, Bool, true, false, ◌&&◌, ◌||◌, eqb, Option, Some, None, set, refl, sym, ap, ◌∙◌, subst, inl, inr, append-nil, MatchOption}
-use Rattle.std.specs.Prelude.{slice_get, IfSome}
+use Rattle.std.proofs.Common.{◌≡◌, ℕ, ◌⊎◌, ◌++◌, ◌∷◌, [], List, Bool, true, false, Some, None, set, refl, sym, ap, ◌∙◌, subst, inl, inr}
+use Rattle.std.specs.Prelude.{slice_get}
 use Rattle.std.proofs.lemmas.Bool.{cases_Bool}
 use Rattle.core_machine.proofs.Names.{Gpi, GeometryData, Entry, Caller, Scene, map_in, number_by}
-use Rattle.core_machine.proofs.Names.entry
 use Rattle.core_machine.proofs.Names.caller
 use Rattle.gpi_values.specs.declared.gpi.Space.{Space}
 use Rattle.gpi_values.specs.Values.{permits_of}
@@ -11,11 +10,10 @@ use Rattle.history.specs.Entries.{changes_granule}
 use Rattle.core_machine.specs.Lines.{is_allowed_look, seen_after, is_seen_since, seen_in, has_line}
 use Rattle.core_machine.specs.InnerCpuCaller.{Decision}
 use Rattle.core_machine.specs.InnerCallers.{unpassed_by, uncleaned_by, decided_by, touching_by}
-use Rattle.core_machine.specs.InnerWalks.{In, SomeHas}
+use Rattle.core_machine.specs.InnerWalks.{In}
 use Rattle.core_machine.specs.InnerLines.{DecisionHolds, DecisionsHold, LineHolds, LinesHold, TouchesHold}
-use Rattle.core_machine.proofs.ListLemmas.{get_set, get_set_here, get_set_other}
+use Rattle.core_machine.proofs.ListLemmas.{get_set}
 use Rattle.core_machine.proofs.WalkLemmas.{some_moves, some_here}
-use Rattle.core_machine.proofs.LineLemmas.{touch_lines, clean_lines, is_this, this_is, permitted_space, own_permits}
 
 -- ---- what was looked at since the last change
 

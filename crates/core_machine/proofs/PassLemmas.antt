@@ -1,8 +1,8 @@
 -- The raises, the barrier and the cleans of a transition: what they do to decided accesses and to resident lines.
-use Rattle.std.proofs.Common.{◌≡◌, ◌≢◌, ◌⊎◌, ℕ, zero, suc, ◌+◌, ◌/◌, ◌<◌, ◌≤◌, ◌++◌, ◌∷◌, [], List, Bool, true, false, not, ◌&&◌, Option, Some, None, set, refl, sym, ap, ◌∙◌, subst, arith, inl, inr, append-nil, if◌then◌else◌}
-use Rattle.std.specs.Prelude.{slice_get, slice_index, nat_lt}
+use Rattle.std.proofs.Common.{◌≡◌, ◌⊎◌, ℕ, ◌<◌, ◌≤◌, ◌++◌, ◌∷◌, [], List, Bool, true, false, not, ◌&&◌, Option, Some, None, refl, sym, ap, ◌∙◌, subst, arith, inl, inr, append-nil, if◌then◌else◌}
+use Rattle.std.specs.Prelude.{slice_index, nat_lt}
 use Rattle.std.proofs.lemmas.Bool.{cases_Bool, ltb-true, ltb-false}
-use Rattle.core_machine.proofs.Names.{Gpi, Size, Generations, GeometryData, Duty, place_of, Act, after_act, Task, Change, Kept, Stage, address_of, granule_of_task, Caller, number_by, duty_by, HoldsIn, Scene, map_in, CpuData, IsCpu, IsMade, Entry}
+use Rattle.core_machine.proofs.Names.{Gpi, Size, Generations, GeometryData, Duty, place_of, Act, after_act, Task, Change, Kept, Stage, address_of, granule_of_task, Caller, duty_by, HoldsIn, Scene, map_in, Entry}
 use Rattle.core_machine.proofs.Names.gpi
 use Rattle.core_machine.proofs.Names.task
 use Rattle.core_machine.proofs.Names.stage
@@ -10,7 +10,7 @@ use Rattle.core_machine.proofs.Names.caller
 use Rattle.gpi_values.specs.declared.gpi.Space.{Space}
 use Rattle.gpi_values.specs.declared.security.Source.{Source}
 use Rattle.gpi_values.specs.declared.security.Source.TheVariants as source
-use Rattle.gpi_values.specs.Values.{own_of, permits_of, gpi_of_space}
+use Rattle.gpi_values.specs.Values.{own_of, permits_of}
 use Rattle.gpi_values.specs.declared.gpi.Space.TheVariants as space
 use Rattle.gpt_descriptors.specs.Sizes.{granule_number}
 use Rattle.alias_clean.specs.Lines.{clean_of}
@@ -22,16 +22,14 @@ use Rattle.delegate_ops.specs.declared.stage.Line.TheVariants as line
 use Rattle.delegate_ops.specs.Changing.{from_of, to_of, former_space, own_space, space_of_line, target_space}
 use Rattle.delegate_ops.specs.InnerAgents.{IsChangeOf, IsCleaned, IsPrepared, cleaned_stage, last_stage, merging_stage, passed_stage, passing_stage}
 use Rattle.delegate_ops.proofs.SpaceLemmas.{former_gpi}
-use Rattle.history.specs.Legality.{needed}
 use Rattle.processor.specs.InnerCpus as cpus
 use Rattle.processor.specs.InnerProgress as progress
 use Rattle.core_machine.specs.Lines.{has_line, seen_in}
-use Rattle.core_machine.specs.InnerCpuCaller.{Decision, cpu_duty, decided_under}
+use Rattle.core_machine.specs.InnerCpuCaller.{Decision, decided_under}
 use Rattle.core_machine.specs.InnerAgentCaller.{unpassed_at, uncleaned_at}
 use Rattle.core_machine.specs.InnerCallers.{decided_by}
 use Rattle.core_machine.specs.InnerWalks.{In}
-use Rattle.core_machine.proofs.ListLemmas.{get_set}
-use Rattle.core_machine.proofs.WalkLemmas.{in_pairs, one_pair}
+use Rattle.core_machine.proofs.WalkLemmas.{one_pair}
 use Rattle.core_machine.proofs.MarkLemmas.{AgentMarks, NoneDecided}
 use Rattle.core_machine.proofs.LineLemmas.{clean_lines, is_this, permitted_space, this_is, this_line}
 use Rattle.core_machine.proofs.CallerLemmas.{made_at_place}

@@ -7,7 +7,7 @@ use Rattle.core_machine.proofs.ActLemmas.{MarksGo, marks_stay}
 use Rattle.core_machine.proofs.MarkLemmas.{seen_more}
 use Rattle.core_machine.proofs.PassLemmas.{barrier_marks, raised_passes}
 use Rattle.core_machine.proofs.WordLemmas.{lines_left}
-use Rattle.core_machine.proofs.Names.{Size, Generations, granule_bytes, size_bytes, Gpi, words_of, GeometryData, Generation, Level1, place_of, l1_index_of, gen_place_of, blocks_in_region, Act, Fusing, Testing, Storing, Ended, Step, Whole, apart_by, AreWords, Facts, Keeps, step_of, Task, Answer, Entry, region_of, Change, Kept, Stage, address_of, generation_in, AgentData, IsStage, task_of, goes_to, HoldsIn, Scene, state_in, scene_after, map_in, IsCounted, generation_word, entries_at, made_at, granule_of_task, is_inside, open_at, comes_before, SeesGeneration, SeesAt, is_due_at, is_around, coming_at, known_at, is_due, IsMade}
+use Rattle.core_machine.proofs.Names.{Size, Generations, granule_bytes, size_bytes, Gpi, GeometryData, Generation, place_of, gen_place_of, blocks_in_region, apart_by, AreWords, Task, Answer, Entry, region_of, Change, Kept, Stage, address_of, generation_in, AgentData, IsStage, task_of, goes_to, HoldsIn, Scene, state_in, scene_after, map_in, IsCounted, generation_word, entries_at, made_at, granule_of_task, is_inside, open_at, comes_before, SeesGeneration, SeesAt, is_due_at, is_around, coming_at, is_due, IsMade}
 use Rattle.core_machine.proofs.Names.size
 use Rattle.core_machine.proofs.Names.answer
 use Rattle.core_machine.proofs.Names.entry

@@ -1,10 +1,10 @@
 -- Kept walks, and the changes whose generation isn't raised yet: what a step of one caller leaves of them.
-use Rattle.std.proofs.Common.{◌≡◌, ◌≢◌, ℕ, zero, suc, ◌+◌, ◌*◌, ◌/◌, ◌<◌, ◌≤◌, ◌⊎◌, ◌++◌, ◌∷◌, [], List, Bool, true, false, eqb, Option, Some, None, length, set, refl, sym, ap, ◌∙◌, subst, arith, inl, inr, append-nil, if◌then◌else◌}
-use Rattle.std.specs.Prelude.{slice_get, slice_index, slice_index_or, Contains}
-use Rattle.std.specs.List.{flat_map, filter}
-use Rattle.std.proofs.lemmas.Bool.{cases_Bool, cases_eq, eqb-true, eq-eqb}
+use Rattle.std.proofs.Common.{◌≡◌, ◌≢◌, ℕ, zero, suc, ◌/◌, ◌<◌, ◌≤◌, ◌⊎◌, ◌++◌, ◌∷◌, [], List, Bool, true, false, eqb, Some, None, set, refl, sym, ap, ◌∙◌, subst, arith, inl, inr, if◌then◌else◌}
+use Rattle.std.specs.Prelude.{slice_get, Contains}
+use Rattle.std.specs.List.{flat_map}
+use Rattle.std.proofs.lemmas.Bool.{cases_Bool, cases_eq, eq-eqb}
 use Rattle.std.proofs.lemmas.List.Concat.{flat_map-cons}
-use Rattle.core_machine.proofs.Names.{Gpi, Size, GeometryData, WordName, Entry, Caller, Scene, map_in, map_at, state_in, state_after, granule_bytes, size_bytes, space_bytes, blocks_in_region, generation_word, gen_place_of, open_by, number_by, pairs_of, region_of}
+use Rattle.core_machine.proofs.Names.{Gpi, Size, GeometryData, Entry, Caller, Scene, map_in, granule_bytes, size_bytes, generation_word, open_by, number_by, pairs_of, region_of}
 use Rattle.core_machine.proofs.Names.caller
 use Rattle.gpt_descriptors.specs.Sizes.{granule_number}
 use Rattle.gpt_descriptors.proofs.PlaceLemmas.{generation_named}
@@ -14,7 +14,7 @@ use Rattle.history.specs.Stamps.{Gave}
 use Rattle.history.proofs.StampLemmas.{gave_later}
 use Rattle.core_machine.specs.InnerCallers.{unraised_by, walks_by}
 use Rattle.core_machine.specs.InnerInvariant.{OpenAreHeld}
-use Rattle.core_machine.specs.InnerWalks.{In, SomeHas, walk_size, walk_generation, generation_around, GivesNow, WalkHolds, PairsNumbered}
+use Rattle.core_machine.specs.InnerWalks.{In, SomeHas, walk_size, walk_generation, generation_around, WalkHolds, PairsNumbered}
 use Rattle.core_machine.proofs.ListLemmas.{get_set, get_set_here, get_set_other}
 use Rattle.core_machine.proofs.StampLemmas.{Rises, region_around}
 

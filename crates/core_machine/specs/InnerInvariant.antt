@@ -4,7 +4,7 @@ use Rattle.std.specs.List.{All, filter, flat_map, list_any}
 use Rattle.gpi_values.specs.declared.gpi.Gpi.{Gpi}
 use Rattle.gpt_descriptors.specs.declared.size.Size.{Size}
 use Rattle.gpt_descriptors.specs.Sizes.{SetupData, granule_bytes, space_granules}
-use Rattle.gpt_descriptors.specs.Places.{GeometryData, IsGeometry, Duty, Level1, Line, place_of, l0_words, l1_words, word_count, blocks_in_region}
+use Rattle.gpt_descriptors.specs.Places.{GeometryData, IsGeometry, Duty, Level1, place_of, l0_words, word_count, blocks_in_region}
 use Rattle.bit_locks.specs.Locks.{lock_bit}
 use Rattle.table_meaning.specs.Meaning.{BlocksMean}
 use Rattle.table_meaning.specs.Equation.{apart_by, AreWords}

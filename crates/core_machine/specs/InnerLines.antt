@@ -1,6 +1,6 @@
 -- Decided accesses and resident lines between acts: each is right by the map, or some caller has changed its granule
 -- and not yet waited for, or cleaned, what was from before.
-use Rattle.std.specs.Prelude.{◌≡◌, ℕ, ◌⊎◌, true, List, [], slice_get, Some}
+use Rattle.std.specs.Prelude.{◌≡◌, ℕ, ◌⊎◌, true, List, slice_get, Some}
 use Rattle.gpi_values.specs.declared.gpi.Gpi.{Gpi}
 use Rattle.gpi_values.specs.declared.gpi.Space.{Space}
 use Rattle.gpi_values.specs.Values.{permits_of}

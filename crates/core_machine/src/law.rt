@@ -1,5 +1,6 @@
 ghost use Rattle.core_machine.specs.InnerLaw.{OneActKeeps};
 ghost use Rattle.core_machine.specs.InnerCallerLaws.{ActsHavePlaces, ActsKeepTheirCaller, AgentsGoOn, LocksHaveHolders, WaitsHaveCauses};
+ghost use Rattle.core_machine.specs.InnerSettled.{DoneIsQuiet, QuietIsSettled, QuietStays};
 
 /// The law of the core: whatever act a caller makes next, its place is one of the shared words, the
 /// caller can take its answer, and the invariant of the core holds again after it, with the history
@@ -22,4 +23,14 @@ pub fn callers_keep_to_their_words()
 pub fn waits_have_causes()
     ensures locks { LocksHaveHolders }
     ensures waits { WaitsHaveCauses }
+{}
+
+/// What a transition that is done leaves behind of its granule's former space: nothing. Where it is
+/// about to answer, no caller has the granule changed and not cleaned; of such a granule no kept walk
+/// that could still hit, no access under way and no resident line is by another GPI than the map's;
+/// and so it stays until an act changes the granule again.
+pub fn done_leaves_nothing_behind()
+    ensures done { DoneIsQuiet }
+    ensures settled { QuietIsSettled }
+    ensures stays { QuietStays }
 {}

@@ -11,6 +11,8 @@ mod playing;
 
 pub use caller::Caller;
 pub use calling::{callers, task_of};
-pub use law::{callers_keep_to_their_words, one_act_keeps, waits_have_causes};
+pub use law::{
+    callers_keep_to_their_words, done_leaves_nothing_behind, one_act_keeps, waits_have_causes,
+};
 pub use machine::Machine;
 pub use played::{count_cpus, geometry_of, play};
