@@ -22,14 +22,13 @@
 #
 # YARDSTICK names a C program that measures raw work on this machine: its line `act`, nanoseconds for one act of whole
 # transitions, is printed below those of TURNS; where one costs more than 2.5 times as much, the status is 1. So are
-# its lines `access` and `search`, for one act of accesses that are hit by the oldest walk of 8 and of 64: there an access
-# has one act more, that of its line. Its line
+# its lines `access` and `search`, for one act of accesses that are hit by the oldest walk of 8 and of 64. Its line
 # `store`, nanoseconds for one
 # store of splitting and merging 512 MB, is printed below those of the program. Of a pair in one turn line all
 # acts are counted, most of which are stores; where one costs more than twice as much, the status is 1.
 #
 # One `round` line gives the agent that holds the lock as many turns as each that waits, and a holder
-# releases its lock within 13 turns. So it is the last one, and the line is one round: all others wait until
+# releases its lock within 15 turns. So it is the last one, and the line is one round: all others wait until
 # it has its turns, which then are those of an agent that has ended. These are taken off at their price.
 set -euo pipefail
 export LC_ALL=C
@@ -38,8 +37,8 @@ readonly program=${1:?usage: bench/turns.sh PROGRAM [RUNS]}
 readonly runs=${2:-5}
 readonly most_turns=20000000
 readonly most_bytes=1048576
-readonly delegate_acts=10
-readonly undelegate_acts=14
+readonly delegate_acts=12
+readonly undelegate_acts=16
 readonly pair_acts=$((delegate_acts + undelegate_acts))
 # At `max 512` a pair splits its block in 8,192 stores, and merges it in 62 loads and as many stores.
 readonly split_acts=$((pair_acts + 8192 + 62 + 8192))
@@ -243,7 +242,7 @@ hits() {
 # first time. The second is what is held against the yardstick, which keeps no answers. An access has 26 bytes, one that
 # is hit 14, and one that fills a ring at most 19.
 if [ -n "${TURNS:-}" ]; then
-    readonly one_looks=$(((most_bytes - 600) / 26)) look_acts=7 hit_acts=3 inside=$((1 << 28))
+    readonly one_looks=$(((most_bytes - 600) / 26)) look_acts=8 hit_acts=4 inside=$((1 << 28))
     readonly hit_looks=$(((most_bytes - 600 - 64 * 19) / 14))
     readonly few_looks=$((one_looks / 2)) many_looks=$((one_looks / 32 - 1))
     accesses 1 "$one_looks" "$inside" | scenario access "turn 0 $((one_looks * look_acts))"

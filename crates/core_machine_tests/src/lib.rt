@@ -5,3 +5,5 @@
 mod looked;
 #[cfg(test)]
 mod played;
+#[cfg(test)]
+mod waited;

@@ -5,7 +5,7 @@ use history::{Access, Answer, Outcome, Via};
 use std::alloc::Global;
 use std::test::Fail;
 
-const WORD: Reach = Reach::Word;
+pub const WORD: Reach = Reach::Word;
 
 const ALL_512: Reach = Reach::FiveTwelve;
 
@@ -22,7 +22,7 @@ fn looked(alloc: Global, max: u64, ring: u64, rest: &str) -> Result<Outcome, Fai
 }
 
 /// The answer of an access at a table.
-fn seen(gpi: Gpi, allowed: bool, via: Via) -> Answer {
+pub fn seen(gpi: Gpi, allowed: bool, via: Via) -> Answer {
     Answer::Seen(Access {
         allowed,
         gpi,
@@ -31,11 +31,11 @@ fn seen(gpi: Gpi, allowed: bool, via: Via) -> Answer {
     })
 }
 
-fn cold(reach: Reach, lo: u64, hi: u64) -> Via {
+pub fn cold(reach: Reach, lo: u64, hi: u64) -> Via {
     Via::Cold { reach, lo, hi }
 }
 
-fn hit(reach: Reach, at: u64) -> Via {
+pub fn hit(reach: Reach, at: u64) -> Via {
     Via::Hit { reach, at }
 }
 
@@ -83,13 +83,13 @@ fn an_access_may_be_cut_with_its_duty_word_set(rt: HostRuntime) -> Result<(), Fa
     let outcome = looked(rt.alloc(), 0, 8, rest)?;
     assert_eq!(rt; answers(&outcome, 1)?.len(), 1);
     assert_eq!(rt; duty(&outcome)?, 1);
-    // An access that is hit has three acts, after the seven of the one before it.
+    // An allowed access that is hit has four acts, after the eight of the one before it.
     let calls = "cpu\nlook 0x0 nonsecure\nlook 0xffff nonsecure\n";
-    let cut = format!(in rt.alloc(); "{calls}turn 0 9\n")?;
+    let cut = format!(in rt.alloc(); "{calls}turn 0 11\n")?;
     let outcome = looked(rt.alloc(), 0, 8, cut.as_str())?;
     assert_eq!(rt; answers(&outcome, 0)?.len(), 1);
     assert_eq!(rt; duty(&outcome)?, 1);
-    let whole = format!(in rt.alloc(); "{calls}turn 0 10\n")?;
+    let whole = format!(in rt.alloc(); "{calls}turn 0 12\n")?;
     let outcome = looked(rt.alloc(), 0, 8, whole.as_str())?;
     let want = [
         seen(Gpi::NonSecure, true, cold(WORD, 3, 3)),
@@ -105,12 +105,12 @@ fn an_access_sees_a_change_before_or_after_its_word(rt: HostRuntime) -> Result<(
     // The change is made between the generations and the word, and after the word; its generations
     // are raised before the access loads the one of its word again.
     let before =
-        "agent\ndelegate 0x0 realm\ncpu\nlook 0x0 realm\nturn 0 5\nturn 1 4\nturn 0 4\nturn 1 3\n";
+        "agent\ndelegate 0x0 realm\ncpu\nlook 0x0 realm\nturn 0 6\nturn 1 4\nturn 0 4\nturn 1 4\n";
     let outcome = looked(rt.alloc(), 0, 8, before)?;
     let want = [seen(Gpi::Realm, true, cold(WORD, 3, 4))];
     assert_eq!(rt; answers(&outcome, 1)?, want.as_slice());
     let after =
-        "agent\ndelegate 0x0 realm\ncpu\nlook 0x0 realm\nturn 0 5\nturn 1 5\nturn 0 4\nturn 1 2\n";
+        "agent\ndelegate 0x0 realm\ncpu\nlook 0x0 realm\nturn 0 6\nturn 1 5\nturn 0 4\nturn 1 2\n";
     let outcome = looked(rt.alloc(), 0, 8, after)?;
     let want = [seen(Gpi::NonSecure, false, cold(WORD, 3, 4))];
     assert_eq!(rt; answers(&outcome, 1)?, want.as_slice());
@@ -121,7 +121,7 @@ fn an_access_sees_a_change_before_or_after_its_word(rt: HostRuntime) -> Result<(
 fn a_walk_is_tagged_by_what_was_loaded_before_its_word(rt: HostRuntime) -> Result<(), Fail> {
     // Its word has the change already, and its tag is from before the raises.
     let rest = "agent\ndelegate 0x0 realm\ncpu\nlook 0x0 realm\nlook 0x0 realm\nlook 0x0 realm\n\
-        turn 0 5\nturn 1 4\nturn 0 4\nturn 1 14\n";
+        turn 0 6\nturn 1 4\nturn 0 4\nturn 1 17\n";
     let outcome = looked(rt.alloc(), 0, 8, rest)?;
     let want = [
         seen(Gpi::Realm, true, cold(WORD, 3, 4)),
@@ -137,7 +137,7 @@ fn a_kept_walk_gives_the_former_gpi_until_its_raise(rt: HostRuntime) -> Result<(
     // After the change, after the raise of 2 MB, and after the transition is done.
     let rest = "agent\ndelegate 0x0 realm\ncpu\nlook 0x0 nonsecure\nlook 0x0 nonsecure\n\
         look 0x0 nonsecure\nlook 0x0 realm\n\
-        turn 1 7\nturn 0 6\nturn 1 3\nturn 0 1\nturn 1 8\nturn 0 3\nturn 1 3\n";
+        turn 1 8\nturn 0 7\nturn 1 4\nturn 0 1\nturn 1 8\nturn 0 5\nturn 1 4\n";
     let outcome = looked(rt.alloc(), 0, 8, rest)?;
     assert_eq!(rt; answers(&outcome, 0)?, [done(4)].as_slice());
     let want = [
@@ -152,11 +152,11 @@ fn a_kept_walk_gives_the_former_gpi_until_its_raise(rt: HostRuntime) -> Result<(
 
 #[test]
 fn a_walk_of_512_mb_is_missed_by_a_change_elsewhere_in_it(rt: HostRuntime) -> Result<(), Fail> {
-    // The lock, the word, three generations, 8,192 stores, the change and two raises; and after two
-    // accesses the third raise and the release.
+    // The lock, the word, three generations, 8,192 stores and the clean; the change and two raises;
+    // and after another access the third raise, the barrier, the clean and the release.
     let rest = "agent\ndelegate 0x10215000 realm\ncpu\nlook 0x0 nonsecure\nlook 0x1fffffff secure\n\
         look 0x10215000 nonsecure\nlook 0x0 nonsecure\nlook 0x0 nonsecure\nlook 0x10215000 realm\n\
-        turn 1 7\nturn 0 8197\nturn 1 3\nturn 0 3\nturn 1 3\nturn 0 2\nturn 1 19\n";
+        turn 1 8\nturn 0 8198\nturn 1 3\nturn 0 3\nturn 1 4\nturn 0 4\nturn 1 22\n";
     let outcome = looked(rt.alloc(), 512, 8, rest)?;
     assert_eq!(rt; answers(&outcome, 0)?, [done(4)].as_slice());
     let want = [
@@ -177,10 +177,10 @@ fn a_walk_of_512_mb_is_missed_by_a_change_elsewhere_in_it(rt: HostRuntime) -> Re
 /// The size of a ring, whether the third and the last of five accesses are hit, the acts of all five,
 /// and one fewer.
 const RINGS: [(u64, bool, bool, u64, u64); 4] = [
-    (1, false, false, 35, 34),
-    (2, true, false, 31, 30),
-    (3, true, true, 27, 26),
-    (64, true, true, 27, 26),
+    (1, false, false, 40, 39),
+    (2, true, false, 36, 35),
+    (3, true, true, 32, 31),
+    (64, true, true, 32, 31),
 ];
 
 /// The answer of an access that is hit, or cold.
@@ -218,7 +218,7 @@ fn a_full_ring_drops_its_oldest_walk(rt: HostRuntime) -> Result<(), Fail> {
 
 #[test]
 fn each_processor_keeps_its_own_walks(rt: HostRuntime) -> Result<(), Fail> {
-    let rest = "cpu\nlook 0x0 nonsecure\nlook 0x0 nonsecure\ncpu\nlook 0x0 secure\nround 10 1\n";
+    let rest = "cpu\nlook 0x0 nonsecure\nlook 0x0 nonsecure\ncpu\nlook 0x0 secure\nround 12 1\n";
     let outcome = looked(rt.alloc(), 0, 1, rest)?;
     let first = [
         seen(Gpi::NonSecure, true, cold(WORD, 3, 3)),

@@ -49,7 +49,7 @@ fn played_at(alloc: Global, max: u64, first: u64, gpi: &str, rest: &str) -> Resu
 }
 
 /// What playing such a scenario without contiguous entries leaves.
-fn played_text(alloc: Global, first: u64, gpi: &str, rest: &str) -> Result<Outcome, Fail> {
+pub fn played_text(alloc: Global, first: u64, gpi: &str, rest: &str) -> Result<Outcome, Fail> {
     played_at(alloc, 0, first, gpi, rest)
 }
 
@@ -280,65 +280,5 @@ fn callers_begin_without_answers(rt: HostRuntime) -> Result<(), Fail> {
     let second = made.get(2).ok_or("no processor")?;
     assert_eq!(rt; second.next(), Some(Act::Store(2187, 1)));
     assert!(rt; second.answers().is_empty());
-    Ok(())
-}
-
-/// A cold access at the 64 KB around a granule.
-fn cold(gpi: Gpi, allowed: bool, lo: u64, hi: u64) -> Answer {
-    let reach = Reach::Word;
-    Answer::Seen(Access {
-        allowed,
-        gpi,
-        level: 1,
-        via: Via::Cold { reach, lo, hi },
-    })
-}
-
-/// A delegate beside an access that has set its duty word, 2186, before the delegate's first act.
-const BESIDE_AN_ACCESS: &str =
-    "agent\ndelegate 0x0 realm\ncpu\nlook 0x0 nonsecure\nturn 1 1\nturn 0 100\n";
-
-#[test]
-fn a_barrier_waits_for_an_access_from_before(rt: HostRuntime) -> Result<(), Fail> {
-    let outcome = played_text(rt.alloc(), 0, "nonsecure", BESIDE_AN_ACCESS)?;
-    assert!(rt; answers(&outcome, 0)?.is_empty());
-    // It holds its lock, has raised its generations, and hasn't cleared the duty word.
-    let words = outcome.words.as_slice();
-    assert_eq!(rt; *words.get(0).ok_or("no words")?, 1);
-    for place in [2, 2050, 2178, 2186] {
-        assert_eq!(rt; *words.get(place).ok_or("no words")?, 1);
-    }
-    Ok(())
-}
-
-#[test]
-fn a_barrier_passes_when_the_access_is_over(rt: HostRuntime) -> Result<(), Fail> {
-    // The rest of the access; and then the load of its duty word, the last clean and the unlock.
-    for (turns, count) in [(2, 0), (3, 1)] {
-        let rest = format!(in rt.alloc(); "{BESIDE_AN_ACCESS}turn 1 6\nturn 0 {turns}\n")?;
-        let outcome = played_text(rt.alloc(), 0, "nonsecure", &rest)?;
-        assert_eq!(rt;
-            answers(&outcome, 1)?,
-            [cold(Gpi::Realm, false, 1, 1)].as_slice()
-        );
-        assert_eq!(rt; answers(&outcome, 0)?.len(), count);
-    }
-    Ok(())
-}
-
-#[test]
-fn an_undelegate_waits_behind_each_of_its_changes(rt: HostRuntime) -> Result<(), Fail> {
-    // Two processors. The first change is behind their duty words, and so is the second one.
-    let rest =
-        "agent\nundelegate 0x0 realm\ncpu\nlook 0x0 realm\ncpu\nlook 0x0 realm\nlook 0x0 realm\n";
-    for (lines, count) in [
-        ("turn 2 1\nturn 0 100\nturn 1 1\nturn 2 6\nturn 0 100\n", 0),
-        ("turn 2 1\nturn 0 100\nturn 2 6\nturn 0 100\n", 1),
-        ("turn 2 7\nturn 0 13\nturn 2 1\nturn 0 100\n", 0),
-    ] {
-        let rest = format!(in rt.alloc(); "{rest}{lines}")?;
-        let outcome = played_text(rt.alloc(), 0, "realm", &rest)?;
-        assert_eq!(rt; answers(&outcome, 0)?.len(), count, "{lines}");
-    }
     Ok(())
 }
