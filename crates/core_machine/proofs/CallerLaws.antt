@@ -107,7 +107,7 @@ duty_held g s p stands low busy =
           let made = made_at_place g s some.0 (caller.Cpu own.0) stands there in
           let on : duty_at own.0.stage ≢ 0 = λ off. busy (stands.duties some.0 p (caller.Cpu own.0) there (ap Some own.2) ∙ off) in
           let access = access_left own.0 (cpus.task_of own.0) made.1.stage on in
-          record { number = some.0; cpu = own.0; at = there; is = own.2; on = duty_one own.0.stage on; access = access.0; left = access.1 })
+          record { number = some.0; cpu = own.0; at = there; is = own.2; on = duty_one own.0.stage on; access = access.0; left = access.1; acts = subst (cpus.HasActs own.0.geometry) access.1 made.1.acts })
     ]
 
 abbrev Cause : GeometryData → Scene → ℕ → Task → Stage → Type 0

@@ -41,9 +41,9 @@ pub mod TraceLemmas
 pub mod AnswerLemmas
 pub mod PartLemmas
 pub mod FreeLemmas
+pub mod QuietLemmas
 pub mod RunLemmas
 pub mod CallerLaws
 pub mod StillLemmas
 pub mod LeaveLemmas
 pub mod StoreLemmas
-pub mod QuietLemmas

@@ -86,7 +86,7 @@ uncleaned_in g (stage.Passing c d k) (Some t) granule v acts has = eq-eqb _ _ (s
 uncleaned_in g (stage.Cleaning c line.Former k) (Some t) granule v acts has = eq-eqb _ _ (sym (task_lock g t acts) ∙ ap (lock_of g.setup) (one_pair (granule_of_task g t) granule (from_of t c) v has).0)
 uncleaned_in g s o granule v acts has = absurd has
 
-uncleaned_holds : (g : GeometryData) (x : Caller) (granule : ℕ) (v : Gpi) → IsMade g x → In {A = ℕ × Gpi} (granule, v) (uncleaned_by x) → holds (lock_of g.setup granule) x ≡ true
+pub uncleaned_holds : (g : GeometryData) (x : Caller) (granule : ℕ) (v : Gpi) → IsMade g x → In {A = ℕ × Gpi} (granule, v) (uncleaned_by x) → holds (lock_of g.setup granule) x ≡ true
 uncleaned_holds g (caller.Agent a) granule v made has =
     subst (λ (k : GeometryData). holds (lock_of k.setup granule) (caller.Agent a) ≡ true) made.0 (uncleaned_in a.geometry a.stage (task_of a) granule v made.1.acts has)
 uncleaned_holds g (caller.Cpu q) granule v made has = absurd has

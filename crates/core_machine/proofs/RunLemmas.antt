@@ -11,10 +11,13 @@ use Rattle.history.specs.Rings.{AreRinged, HasRings, IsRinged, named_in}
 use Rattle.history.specs.declared.rings.Named.{Named}
 use Rattle.processor.proofs.RingLemmas.{walked_ringed}
 use Rattle.gpi_values.specs.Values.{permits_of}
-use Rattle.core_machine.specs.Lines.{AreAtRest, has_line, seen_in}
-use Rattle.core_machine.specs.InnerAgentCaller.{uncleaned_at}
+use Rattle.core_machine.specs.Lines.{AreAtRest, AreCleaned, AreTouched, has_line, seen_in}
 use Rattle.core_machine.specs.InnerCpuCaller.{touching_under}
-use Rattle.core_machine.specs.InnerCallers.{touching_by, uncleaned_by}
+use Rattle.core_machine.specs.InnerCallers.{touching_by}
+use Rattle.core_machine.proofs.AddressLemmas.{lock_of}
+use Rattle.core_machine.proofs.QuietLemmas.{uncleaned_holds}
+use Rattle.processor.specs.InnerCpus.{task_of as cpu_task}
+use Rattle.gpt_descriptors.specs.Sizes.{SetupData}
 use Rattle.core_machine.specs.InnerWalks.{In}
 use Rattle.core_machine.proofs.Names.stage
 use Rattle.core_machine.proofs.Names.{map_in, Gpi, Entry, start, after_entry, state_after, Size, granule_bytes, size_bytes, GeometryData, blocks_in_region, word_count, Duty, place_of, CallEvent, CpuData, IsCpu, Act, lock_number, lock_bit, Scenario, Script, Task, Answer, answer_at, count_of, AgentData, IsAgent, next_of, Caller, caller_next, caller_answers, known_answers, duty_by, number_by, holds, is_due, caller_tasks, IsMade, HoldsIn, InvariantFor, scene_of, caller_of, callers_from, cpu_number, opening_of, played, IsCounted, generation_word, TraceEvent, history_of, first_map, geometry_of, task_of_ask, task_of_look, turns_in, Scene, is_inside, coming_at, Stage, IsStage, task_of}
@@ -154,41 +157,63 @@ duty_ended g s tasks stands have numbered ended p low =
     stands.duties own.0 p own.1 own.2 own.3
     ∙ off_by g own.1 (made_at_place g s own.0 own.1 stands own.2) (all_answered tasks s.callers own.0 own.1 have own.2 ended)
 
--- ---- lines at the end
+-- ---- lines
 
--- a caller without a call left has nothing uncleaned and nothing to touch
-cleaned_by : (g : GeometryData) (x : Caller) → IsMade g x → length (caller_tasks x) ≤ length (caller_answers x) → uncleaned_by x ≡ []
-cleaned_by g (caller.Agent a) made all =
-    let none : task_of a ≡ None = slice_get_past a.tasks (length a.answers) all in
-    let locking : a.stage ≡ stage.Locking = subst (IsStage a.geometry a.stage) none made.1.stage in
-    ap (λ (s : Stage). uncleaned_at a.geometry s (task_of a)) locking
-cleaned_by g (caller.Cpu q) made all = refl
+both_are : (b c : Bool) → (b && c) ≡ true → (b ≡ true) × (c ≡ true)
+both_are true true both = (refl, refl)
+both_are true false both = absurd cc
+both_are false c both = absurd cc
 
-touched_by : (g : GeometryData) (x : Caller) → IsMade g x → length (caller_tasks x) ≤ length (caller_answers x) → touching_by x ≡ []
-touched_by g (caller.Agent a) made all = refl
-touched_by g (caller.Cpu q) made all = ap (λ (o : Option Task). touching_under q.geometry o q.stage) (slice_get_past q.tasks (length q.answers) all)
-
-neither : (b c : Bool) → (b ≡ true → c ≡ true → ⊥) → (b && c) ≡ false
-neither true true never = absurd (never refl refl)
-neither true false never = refl
-neither false c never = refl
-
-pub lines_ended : (g : GeometryData) (s : Scene) (tasks : List (List Task)) → HoldsIn g s → HaveTasks tasks s.callers → ((d k : ℕ) (t : Task) → task_at tasks d k ≡ Some t → answer_at (map caller_answers s.callers) d k ≡ None → ⊥)
-    → AreAtRest g s.words (map_in s) s.history
-lines_ended g s tasks stands have ended k sp =
-    let done : (d : ℕ) (x : Caller) → slice_get s.callers d ≡ Some x → length (caller_tasks x) ≤ length (caller_answers x) = λ d x there. all_answered tasks s.callers d x have there ended in
-    elim (cases_Bool (has_line g s.words k sp)) [
-      | inl resident ↦ resident ∙ elim (stands.lines k sp resident) [
-        | inl by_map ↦ sym (rw (by_map.0, by_map.1) refl)
-        | inr former ↦
-            absurd (let some = former.2 in
-            subst (In {A = ℕ × Gpi} (k, former.0)) (cleaned_by g some.caller (made_at_place g s some.number some.caller stands some.at) (done some.number some.caller some.at)) some.has)
-      ]
-      | inr none ↦ none ∙ sym (neither (permits_of (map_in s k) sp) (seen_in k sp s.history) (λ permits seen. elim (stands.touches k sp permits seen) [
-        | inl resident ↦ let both : true ≡ false = sym resident ∙ none in cc
-        | inr some ↦ subst (In {A = ℕ × Space} (k, sp)) (touched_by g some.caller (made_at_place g s some.number some.caller stands some.at) (done some.number some.caller some.at)) some.has
-      ]))
+-- beside a lock that isn't held a resident line is by the map and the history
+line_clean : (g : GeometryData) (s : Scene) (k : ℕ) (sp : Space) → HoldsIn g s → (lock_of g.setup k < 128 → lock_bit s.words (lock_of g.setup k) ≡ 0)
+    → has_line g s.words k sp ≡ true → (permits_of (map_in s k) sp && seen_in k sp s.history) ≡ true
+line_clean g s k sp stands free resident =
+    elim (stands.lines k sp resident) [
+      | inl by_map ↦ rw (by_map.0, by_map.1) refl
+      | inr former ↦
+          absurd (let some = former.2 in
+          let has = uncleaned_holds g some.caller k former.0 (made_at_place g s some.number some.caller stands some.at) some.has in
+          let low = (placed_at g s some.number some.caller stands some.at).low (lock_of g.setup k) has in
+          let both : 1 ≡ 0 = sym (holder_bit s.words s.callers some.number (lock_of g.setup k) some.caller some.at stands.locks low has) ∙ free low in
+          cc)
     ]
+
+pub cleaned_told : (g : GeometryData) (s : Scene) → HoldsIn g s → AreCleaned g s.words (map_in s) s.history
+cleaned_told g s stands k sp free = line_clean g s k sp stands (λ low. free)
+
+-- who is about to touch a line is a processor with its duty word set
+touching_on : (g : GeometryData) (o : Option Task) (s : progress.Stage) (k : ℕ) (sp : Space) → In {A = ℕ × Space} (k, sp) (touching_under g o s) → duty_at s ≡ 1
+touching_on g (Some (task.Look pa space)) (progress.Closing w m) k sp has = refl
+touching_on g (Some (task.Look pa space)) (progress.Touching a) k sp has = refl
+touching_on g o s k sp has = absurd has
+
+touching_off : (g : GeometryData) (s : Scene) (c k : ℕ) (x : Caller) (sp : Space) → HoldsIn g s → slice_get s.callers c ≡ Some x
+    → ((p : ℕ) → p < g.cpus → slice_index s.words (place_of g (Duty p)) ≡ 0) → In {A = ℕ × Space} (k, sp) (touching_by x) → ⊥
+touching_off g s c k (caller.Agent a) sp stands at off has = has
+touching_off g s c k (caller.Cpu q) sp stands at off has =
+    let made = made_at_place g s c (caller.Cpu q) stands at in
+    let low : q.number < g.cpus = subst (λ (v : GeometryData). q.number < v.cpus) made.0 made.1.number in
+    absurd (let both : 1 ≡ 0 = sym (touching_on q.geometry (cpu_task q) q.stage k sp has) ∙ sym (stands.duties c q.number (caller.Cpu q) at refl) ∙ off q.number low in cc)
+
+pub touched_told : (g : GeometryData) (s : Scene) → HoldsIn g s → AreTouched g s.words (map_in s) s.history
+touched_told g s stands off k sp both =
+    let parts = both_are (permits_of (map_in s k) sp) (seen_in k sp s.history) both in
+    elim (stands.touches k sp parts.0 parts.1) [
+      | inl resident ↦ resident
+      | inr some ↦ absurd (touching_off g s some.number k some.caller sp stands some.at off some.has)
+    ]
+
+same_where : (b c : Bool) → (b ≡ true → c ≡ true) → (c ≡ true → b ≡ true) → b ≡ c
+same_where true true there back = refl
+same_where false false there back = refl
+same_where true false there back = sym (there refl)
+same_where false true there back = back refl
+
+pub lines_ended : (g : GeometryData) (s : Scene) → HoldsIn g s → ((n : ℕ) → n < 128 → lock_bit s.words n ≡ 0) → ((p : ℕ) → p < g.cpus → slice_index s.words (place_of g (Duty p)) ≡ 0)
+    → AreAtRest g s.words (map_in s) s.history
+lines_ended g s stands free off k sp =
+    same_where (has_line g s.words k sp) (permits_of (map_in s k) sp && seen_in k sp s.history)
+    (line_clean g s k sp stands (free (lock_of g.setup k))) (touched_told g s stands off k sp)
 
 -- ---- causes
 
@@ -314,7 +339,9 @@ fits_history g s tasks stands have made numbered count =
       ended = locks_ended g s tasks stands have;
       whole = whole_told g s stands (locks_ended g s tasks stands have);
       duty = duty_ended g s tasks stands have numbered;
-      lines = lines_ended g s tasks stands have;
+      cleaned = cleaned_told g s stands;
+      touched = touched_told g s stands;
+      lines = λ ended. lines_ended g s stands (locks_ended g s tasks stands have ended) (duty_ended g s tasks stands have numbered ended);
     }
 
 -- ---- the trace of a schedule

@@ -29,7 +29,7 @@ use Rattle.delegate_ops.specs.Deciding.{is_look, HasCause}
 use Rattle.delegate_ops.specs.Script.{granule_of_task}
 use Rattle.processor.specs.Accesses.{block_answer}
 use Rattle.core_machine.specs.Scenarios.{map_at}
-use Rattle.core_machine.specs.Lines.{AreAtRest}
+use Rattle.core_machine.specs.Lines.{AreAtRest, AreCleaned, AreTouched}
 
 -- ---- transitions on one lock block
 
@@ -119,7 +119,8 @@ AllAnswered tasks answers =
     (c k : ℕ) (t : Task) → task_at tasks c k ≡ Some t → answer_at answers c k ≡ None → ⊥
 
 -- Answers and words fit a history from a first map: it is legal, it has the entries of each call
--- once and in its caller's order, and the words are those of its last map and its counts.
+-- once and in its caller's order, and the words are those of its last map, its counts and its accesses,
+-- apart from what calls without an answer have under way.
 pub record FitsHistory (g : GeometryData) (first : List Gpi) (tasks : List (List Task))
     (answers : List (List Answer)) (words : List ℕ) (h : List Entry) : Type 0 where
   pub many : length answers ≡ length tasks
@@ -164,5 +165,9 @@ pub record FitsHistory (g : GeometryData) (first : List Gpi) (tasks : List (List
   -- where each call is answered no access is under way
   pub duty : AllAnswered tasks answers → (cpu : ℕ) → cpu < g.cpus
       → slice_index words (place_of g (Duty cpu)) ≡ 0
-  -- and the resident lines are those of the map and of the allowed accesses
+  -- a line beside a lock that isn't held is by the map and the allowed accesses since the last change
+  pub cleaned : AreCleaned g words (map_after first h) h
+  -- and each such line is resident while no access is under way
+  pub touched : AreTouched g words (map_after first h) h
+  -- where each call is answered the resident lines are exactly those
   pub lines : AllAnswered tasks answers → AreAtRest g words (map_after first h) h

@@ -1,6 +1,6 @@
--- What a machine of running words needs to know of callers, beside the law of one act: over plain
--- data, with no history.
-use Rattle.std.specs.Prelude.{◌≡◌, ◌≢◌, ◌⊎◌, ℕ, ◌<◌, true, false, List, is_some, slice_get, Some}
+-- What a machine of running words needs to know of callers, beside the law of one act: what holds of
+-- each by how it was made alone, and why an agent waits.
+use Rattle.std.specs.Prelude.{◌≡◌, ◌≢◌, ◌⊎◌, ℕ, ◌<◌, true, false, List, is_some, slice_get, Some, None}
 use Rattle.gpt_descriptors.specs.Places.{GeometryData, word_count}
 use Rattle.shared_words.specs.declared.act.Act.{Act}
 use Rattle.shared_words.specs.Acts.{place_in, answer_of}
@@ -65,7 +65,7 @@ LocksHaveHolders =
     → IsHeldByAnother g s.callers c t
 
 -- a caller is processor p, is between the first and the last act of an access, and has that access
--- left
+-- left, which is at a granule of an L1 table
 pub record IsInAccess (callers : List Caller) (p : ℕ) : Type 0 where
   pub number : ℕ
   pub cpu : CpuData
@@ -74,6 +74,7 @@ pub record IsInAccess (callers : List Caller) (p : ℕ) : Type 0 where
   pub on : cpu_duty cpu ≡ 1
   pub access : Task
   pub left : cpus.task_of cpu ≡ Some access
+  pub acts : cpus.idle_answer cpu.geometry access ≡ None
 
 -- An agent is left waiting by its next act where that takes a lock that another holds, or where a
 -- barrier has come to a processor that is between the first and the last act of an access, and for

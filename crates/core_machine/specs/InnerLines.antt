@@ -12,8 +12,9 @@ use Rattle.core_machine.specs.InnerCpuCaller.{Decision}
 use Rattle.core_machine.specs.InnerCallers.{number_by, unpassed_by, uncleaned_by, decided_by, touching_by}
 use Rattle.core_machine.specs.InnerWalks.{In, SomeHas}
 
--- processor p has decided an access by this GPI: the map's, and where it is allowed it has looked
--- since the last change; or one that some caller has changed and not yet passed the processor for
+-- processor p has decided an access by this GPI: the map's, and where it is allowed an allowed access
+-- has looked there since the last change; or one that some caller has changed and not yet passed the
+-- processor for
 abbrev pub DecisionHolds : (ℕ → Gpi) → List Entry → List Caller → ℕ → Decision → Type 0
 DecisionHolds m h callers p d =
     ((m d.granule ≡ d.gpi) × (permits_of d.gpi d.space ≡ true → seen_in d.granule d.space h ≡ true))

@@ -1,10 +1,12 @@
 -- Resident lines: which of them a history leaves where no access and no transition is under way.
-use Rattle.std.specs.Prelude.{◌≡◌, ℕ, ◌/◌, ◌%◌, Bool, false, ◌&&◌, ◌||◌, ◌==◌, List, [], ◌∷◌, slice_index, Option, Some, None, if◌then◌else◌}
+use Rattle.std.specs.Prelude.{◌≡◌, ℕ, ◌/◌, ◌%◌, ◌*◌, ◌<◌, Bool, true, false, ◌&&◌, ◌||◌, ◌==◌, List, [], ◌∷◌, slice_index, Option, Some, None, if◌then◌else◌}
 use Rattle.gpi_values.specs.declared.gpi.Gpi.{Gpi}
 use Rattle.gpi_values.specs.declared.gpi.Space.{Space}
 use Rattle.gpi_values.specs.Values.{gpi_of_space, permits_of}
 use Rattle.gpt_descriptors.specs.Level0.{l1_index}
-use Rattle.gpt_descriptors.specs.Places.{GeometryData, Line, place_of, l0_words}
+use Rattle.gpt_descriptors.specs.Places.{GeometryData, Duty, Line, place_of, l0_words}
+use Rattle.gpt_descriptors.specs.Sizes.{granule_bytes}
+use Rattle.bit_locks.specs.Locks.{lock_bit, lock_number}
 use Rattle.alias_clean.specs.Lines.{is_resident}
 use Rattle.history.specs.declared.entry.Entry.{Entry}
 use Rattle.history.specs.declared.entry.Entry.TheVariants as entry
@@ -45,3 +47,18 @@ abbrev pub AreAtRest : GeometryData → List ℕ → (ℕ → Gpi) → List Entr
 AreAtRest g words m h =
     (granule : ℕ) (s : Space)
     → has_line g words granule s ≡ (permits_of (m granule) s && seen_in granule s h)
+
+-- While the lock of its granule's block isn't held, a resident line is one of these: nothing is left
+-- of what the granule's former space had touched.
+abbrev pub AreCleaned : GeometryData → List ℕ → (ℕ → Gpi) → List Entry → Type 0
+AreCleaned g words m h =
+    (granule : ℕ) (s : Space)
+    → lock_bit words (lock_number g.setup (granule * granule_bytes g.setup)) ≡ 0
+    → has_line g words granule s ≡ true → (permits_of (m granule) s && seen_in granule s h) ≡ true
+
+-- While no access is under way, each of these is resident.
+abbrev pub AreTouched : GeometryData → List ℕ → (ℕ → Gpi) → List Entry → Type 0
+AreTouched g words m h =
+    ((cpu : ℕ) → cpu < g.cpus → slice_index words (place_of g (Duty cpu)) ≡ 0)
+    → (granule : ℕ) (s : Space) → (permits_of (m granule) s && seen_in granule s h) ≡ true
+    → has_line g words granule s ≡ true

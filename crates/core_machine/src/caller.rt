@@ -76,7 +76,7 @@ impl Caller {
         }
     }
 
-    /// Whether the last act was a lock that wasn't free.
+    /// Whether the last act was a lock that wasn't free, or a load of a duty word that wasn't 0.
     pub fn waits(&self) -> bool
         ensures { result ≡ caller_waits self.now }
     {
