@@ -2,8 +2,8 @@ ghost use Rattle.scenario_text.specs.Spelling.{WellFormed};
 
 use core_machine::{Caller, callers, geometry_of, play};
 use gpi_values::Gpi;
-use gpt_descriptors::{Generations, Reach, Size};
-use history::{Access, Answer, Outcome, Via};
+use gpt_descriptors::{Generations, Size};
+use history::{Answer, Outcome};
 use region_plan::Plan;
 use scenario_text::{Scenario, parse};
 use shared_words::Act;
