@@ -1,7 +1,7 @@
 use gpi_values::Gpi;
 use std::alloc::AllocError;
 
-/// One act of a transition or of an access, by what the other caller may see of it.
+/// One act of a transition or, from `On` to `Off`, of an access.
 #[derive(Clone, Copy, Debug, PartialEq, Eq)]
 pub enum Step {
     Lock,
@@ -10,7 +10,7 @@ pub enum Step {
     Change,
     RaiseTwo,
     Raise,
-    /// The third raise, with which a change is complete.
+    /// The third raise, which completes a change.
     Settle,
     Barrier,
     /// A turn at the barrier while the access goes on.
@@ -19,9 +19,8 @@ pub enum Step {
     On,
     /// The load of the generation of the kept walk.
     Check,
-    LoadTwo,
-    LoadThirtyTwo,
-    LoadFiveTwelve,
+    Two,
+    Other,
     Word,
     /// The second load of the walk's generation.
     Again,
@@ -40,31 +39,12 @@ pub const UNDELEGATE: [Step; 18] = [
     RaiseTwo, Raise, Settle, Barrier, Unlock,
 ];
 
-/// The acts of an access. A denied one has no touch.
-const COLD: [Step; 8] = [
-    On,
-    LoadTwo,
-    LoadThirtyTwo,
-    LoadFiveTwelve,
-    Word,
-    Again,
-    Touch,
-    Off,
-];
+/// The acts of an access, of which a denied one has no touch.
+const COLD: [Step; 8] = [On, Two, Other, Other, Word, Again, Touch, Off];
 
 const HIT: [Step; 4] = [On, Check, Touch, Off];
 
-const MISSED: [Step; 9] = [
-    On,
-    Check,
-    LoadTwo,
-    LoadThirtyTwo,
-    LoadFiveTwelve,
-    Word,
-    Again,
-    Touch,
-    Off,
-];
+const MISSED: [Step; 9] = [On, Check, Two, Other, Other, Word, Again, Touch, Off];
 
 /// A transition and an access of one granule.
 #[derive(Clone, Copy, Debug)]
@@ -98,10 +78,7 @@ pub struct Turn {
 }
 
 pub fn is_access(step: Step) -> bool {
-    matches!(
-        step,
-        On | Check | LoadTwo | LoadThirtyTwo | LoadFiveTwelve | Word | Again | Touch | Off
-    )
+    COLD.contains(&step) || step == Check
 }
 
 pub fn count(turns: &[Turn], step: Step) -> usize {

@@ -1,7 +1,7 @@
 ghost use Rattle.scenario_text.specs.Spelling.{WellFormed};
 
 use crate::acts::{Case, DELEGATE, Turn, UNDELEGATE, advance, finish, is_access};
-use crate::judged::{FIRST, Tally, judge, leaves_line};
+use crate::judged::{FIRST, done_of, judge, kept_of, leaves_line, marks};
 use core_machine::play;
 use gpi_values::Gpi;
 use history::{Answer, Outcome};
@@ -32,16 +32,14 @@ fn text(alloc: Global, case: &Case<'_>, orders: &[Vec<Turn>]) -> Result<String, 
         name(case.gpi(0))
     )?;
     for slot in 0..orders.len() {
-        write!(
-            out,
-            "{call} 0x{:x} {source}\n",
-            slot.wrapping_mul(0x20_0000)
-        )?;
+        let base = slot.wrapping_mul(0x20_0000);
+        write!(out, "{call} 0x{base:x} {source}\n")?;
     }
     write!(out, "cpu\n")?;
     for slot in 0..orders.len() {
+        let base = slot.wrapping_mul(0x20_0000);
         for _ in 0..1 + case.kept as usize {
-            write!(out, "look 0x{:x} {space}\n", slot.wrapping_mul(0x20_0000))?;
+            write!(out, "look 0x{base:x} {space}\n")?;
         }
     }
     let earlier = 7 + (case.gpi(0) == case.space) as usize;
@@ -84,63 +82,53 @@ fn word(first: Gpi, others: Gpi) -> u64 {
 }
 
 /// The shared words when these orders have ended, of which some left a line. The generations of 2,
-/// 32 and 512 MB count the changes around, and nothing is locked.
-fn words(alloc: Global, case: &Case<'_>, lines: &[bool]) -> Result<Vec<u64>, Fail> {
-    let mut words = vec![in alloc; 0u64; 34955]?;
-    let changes = case.changes() as u64;
-    let raised = |index: usize, size: usize| {
-        let orders = lines
-            .len()
-            .saturating_sub(index.wrapping_mul(size))
-            .min(size);
-        FIRST.wrapping_add(changes.wrapping_mul(orders as u64))
-    };
-    let bit = match case.space {
-        Gpi::Secure => 1u64,
-        Gpi::Realm => 8,
-        _ => 2,
-    };
+/// 32 and 512 MB count the changes, the granules have their last GPI, and nothing is locked.
+fn words(alloc: Global, case: &Case<'_>, lines: &[bool]) -> Result<Vec<u64>, AllocError> {
     let first = case.gpi(0);
-    for (place, word_now) in words.iter_mut().enumerate() {
-        *word_now = match place {
-            2..2050 => raised(place.wrapping_sub(2), 1),
-            2050..2178 => raised(place.wrapping_sub(2050), 16),
-            2178..2186 => raised(place.wrapping_sub(2178), 256),
-            2187..18571 => {
-                let index = place.wrapping_sub(2187);
-                let changed = index % 32 == 0 && index / 32 < lines.len();
-                word(
-                    if changed {
-                        case.gpi(case.changes())
-                    } else {
-                        first
-                    },
-                    first,
-                )
-            }
-            18571..34955 => {
-                let index = place.wrapping_sub(18571);
-                let line = index % 32 == 0 && lines.get(index / 32).copied() == Some(true);
-                if line { bit } else { 0 }
-            }
-            _ => 0,
-        };
+    let last = case.gpi(case.changes());
+    let changes = case.changes() as u64;
+    let mut words = vec![in alloc; 0u64; 2]?;
+    for (count, size) in [(2048usize, 1usize), (128, 16), (8, 256)] {
+        for index in 0..count {
+            let others = lines.len().saturating_sub(index.wrapping_mul(size));
+            let orders = others.min(size) as u64;
+            words.push(FIRST.wrapping_add(changes.wrapping_mul(orders)))?;
+        }
+    }
+    words.push(0)?;
+    for index in 0..16384usize {
+        let changed = index % 32 == 0 && index / 32 < lines.len();
+        words.push(word(if changed { last } else { first }, first))?;
+    }
+    for index in 0..16384usize {
+        let line = index % 32 == 0 && lines.get(index / 32).copied() == Some(true);
+        words.push(if line { bit(case.space) } else { 0 })?;
     }
     Ok(words)
 }
 
-/// What a caller's call was answered.
-fn answer(outcome: &Outcome, caller: usize, call: usize) -> Option<&Answer> {
-    outcome.answers.as_slice().get(caller)?.as_slice().get(call)
+/// The bit of a space in the line word of the first of sixteen granules.
+fn bit(space: Gpi) -> u64 {
+    match space {
+        Gpi::Secure => 1,
+        Gpi::Realm => 8,
+        _ => 2,
+    }
 }
 
-/// Plays these orders in one scenario and holds each against its answers, and all against the words.
+/// What a caller's call was answered.
+fn answer(outcome: &Outcome, caller: usize, call: usize) -> Option<Answer> {
+    let answers = outcome.answers.as_slice().get(caller)?;
+    answers.as_slice().get(call).copied()
+}
+
+/// Plays these orders in one scenario, and holds the answers of each and all words against them.
 fn hold(
     rt: &(impl Abort + Print),
     alloc: Global,
     case: &Case<'_>,
     orders: &[Vec<Turn>],
-    tally: &mut Tally,
+    tally: &mut [usize; 7],
 ) -> Result<(), Fail> {
     let text = text(alloc, case, orders)?;
     let outcome = match parse(alloc, text.as_bytes()) {
@@ -149,12 +137,23 @@ fn hold(
     };
     let mut lines = Vec::new(alloc);
     for (slot, turns) in orders.iter().enumerate() {
-        let looks = 1 + case.kept as usize;
-        let call = slot.wrapping_mul(looks).wrapping_add(case.kept as usize);
-        let answers = (answer(&outcome, 0, slot), answer(&outcome, 1, call));
-        let seen = judge(rt, case, turns.as_slice(), answers, slot).ok_or("not seen")?;
-        tally.note(case, turns.as_slice(), &seen);
+        let done = answer(&outcome, 0, slot);
+        assert_eq!(rt; done, Some(done_of(case, slot)), "{turns:?}");
+        let mut look = slot;
+        if case.kept {
+            look = slot.wrapping_mul(2).wrapping_add(1);
+            let earlier = answer(&outcome, 1, slot.wrapping_mul(2));
+            assert_eq!(rt; earlier, Some(kept_of(case)));
+        }
+        let seen = match answer(&outcome, 1, look) {
+            Some(Answer::Seen(seen)) => seen,
+            _ => Err("not seen")?,
+        };
+        judge(rt, case, turns.as_slice(), &seen);
         lines.push(leaves_line(case, turns.as_slice(), &seen))?;
+        for (total, mark) in tally.iter_mut().zip(marks(case, turns.as_slice(), &seen)) {
+            *total = total.wrapping_add(mark as usize);
+        }
     }
     let want = words(alloc, case, lines.as_slice())?;
     assert!(rt;
@@ -164,9 +163,13 @@ fn hold(
     Ok(())
 }
 
-/// Plays every order of a case.
-fn every_order(rt: &(impl Abort + Print), alloc: Global, case: &Case<'_>) -> Result<Tally, Fail> {
-    let mut tally = Tally::default();
+/// Plays every order of a case, and counts their marks.
+fn every_order(
+    rt: &(impl Abort + Print),
+    alloc: Global,
+    case: &Case<'_>,
+) -> Result<[usize; 7], Fail> {
+    let mut tally = [0; 7];
     let mut turns = Vec::new(alloc);
     finish(case, &mut turns)?;
     let mut orders = Vec::new(alloc);
@@ -184,26 +187,8 @@ fn every_order(rt: &(impl Abort + Print), alloc: Global, case: &Case<'_>) -> Res
     Ok(tally)
 }
 
-const DELEGATED: Case<'static> = Case {
-    call: "delegate",
-    source: Gpi::Realm,
-    acts: &DELEGATE,
-    gpis: &[Gpi::NonSecure, Gpi::Realm],
-    space: Gpi::NonSecure,
-    kept: false,
-};
-
-const UNDELEGATED: Case<'static> = Case {
-    call: "undelegate",
-    source: Gpi::Secure,
-    acts: &UNDELEGATE,
-    gpis: &[Gpi::Secure, Gpi::NoAccess, Gpi::NonSecure],
-    space: Gpi::NonSecure,
-    kept: false,
-};
-
-/// Plays every order with an access in the Non-secure space and in that of the source, each without
-/// a kept walk and with one, and counts what came out.
+/// Every order with an access in the Non-secure space and in that of the source, each without a kept
+/// walk and with one, is counted so.
 fn tallies_are(
     rt: &(impl Abort + Print),
     alloc: Global,
@@ -222,14 +207,12 @@ fn tallies_are(
             kept,
             ..*case
         };
-        let tally = every_order(rt, alloc, &case)?;
-        assert_eq!(rt; tally.counts(), wanted, "{case:?}");
+        assert_eq!(rt; every_order(rt, alloc, &case)?, wanted, "{case:?}");
     }
     Ok(())
 }
 
-// In each row are the orders, and of these those that wait, are granted, hit, are granted by the
-// former GPI, begin after the end and are denied, and leave a line. They were counted apart.
+// The numbers of each mark were counted by another program, which walks the acts without words.
 #[test]
 fn every_order_of_a_delegate_and_an_access(rt: HostRuntime) -> Result<(), Fail> {
     let wanted = [
@@ -238,7 +221,18 @@ fn every_order_of_a_delegate_and_an_access(rt: HostRuntime) -> Result<(), Fail> 
         [74636, 49148, 60908, 0, 0, 0, 60908],
         [10203, 9505, 9939, 264, 0, 0, 9939],
     ];
-    tallies_are(&rt, rt.alloc(), &DELEGATED, wanted)
+    for source in [Gpi::Realm, Gpi::Secure] {
+        let case = Case {
+            call: "delegate",
+            source,
+            acts: &DELEGATE,
+            gpis: &[Gpi::NonSecure, source],
+            space: source,
+            kept: false,
+        };
+        tallies_are(&rt, rt.alloc(), &case, wanted)?;
+    }
+    Ok(())
 }
 
 #[test]
@@ -249,5 +243,16 @@ fn every_order_of_an_undelegate_and_an_access(rt: HostRuntime) -> Result<(), Fai
         [48114, 25995, 23223, 0, 0, 72, 0],
         [18045, 14106, 854, 854, 112, 137, 0],
     ];
-    tallies_are(&rt, rt.alloc(), &UNDELEGATED, wanted)
+    for source in [Gpi::Realm, Gpi::Secure] {
+        let case = Case {
+            call: "undelegate",
+            source,
+            acts: &UNDELEGATE,
+            gpis: &[source, Gpi::NoAccess, Gpi::NonSecure],
+            space: source,
+            kept: false,
+        };
+        tallies_are(&rt, rt.alloc(), &case, wanted)?;
+    }
+    Ok(())
 }
