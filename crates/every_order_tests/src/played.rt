@@ -4,7 +4,7 @@ use crate::acts::{Case, DELEGATE, Turn, UNDELEGATE, advance, finish, is_access};
 use crate::judged::{FIRST, done_of, judge, kept_of, leaves_line, marks};
 use core_machine::play;
 use gpi_values::Gpi;
-use history::{Answer, Outcome};
+use history::{Access, Answer, Outcome};
 use region_plan::Plan;
 use scenario_text::{Scenario, parse};
 use std::alloc::{AllocError, Global};
@@ -122,6 +122,34 @@ fn answer(outcome: &Outcome, caller: usize, call: usize) -> Option<Answer> {
     answers.as_slice().get(call).copied()
 }
 
+/// Holds the answers of one order, before which as many as `slot` were played, against it.
+fn hold_answers(
+    rt: &(impl Abort + Print),
+    case: &Case<'_>,
+    outcome: &Outcome,
+    slot: usize,
+    turns: &[Turn],
+) -> Option<Access> {
+    assert_eq!(rt;
+        answer(outcome, 0, slot),
+        Some(done_of(case, slot)),
+        "{turns:?}"
+    );
+    let mut look = slot;
+    if case.kept {
+        look = slot.wrapping_mul(2);
+        assert_eq!(rt; answer(outcome, 1, look), Some(kept_of(case)));
+        look = look.wrapping_add(1);
+    }
+    match answer(outcome, 1, look) {
+        Some(Answer::Seen(seen)) => {
+            judge(rt, case, turns, &seen);
+            Some(seen)
+        }
+        _ => None,
+    }
+}
+
 /// Plays these orders in one scenario, and holds the answers of each and all words against them.
 fn hold(
     rt: &(impl Abort + Print),
@@ -137,21 +165,10 @@ fn hold(
     };
     let mut lines = Vec::new(alloc);
     for (slot, turns) in orders.iter().enumerate() {
-        let done = answer(&outcome, 0, slot);
-        assert_eq!(rt; done, Some(done_of(case, slot)), "{turns:?}");
-        let mut look = slot;
-        if case.kept {
-            look = slot.wrapping_mul(2).wrapping_add(1);
-            let earlier = answer(&outcome, 1, slot.wrapping_mul(2));
-            assert_eq!(rt; earlier, Some(kept_of(case)));
-        }
-        let seen = match answer(&outcome, 1, look) {
-            Some(Answer::Seen(seen)) => seen,
-            _ => Err("not seen")?,
-        };
-        judge(rt, case, turns.as_slice(), &seen);
-        lines.push(leaves_line(case, turns.as_slice(), &seen))?;
-        for (total, mark) in tally.iter_mut().zip(marks(case, turns.as_slice(), &seen)) {
+        let turns = turns.as_slice();
+        let seen = hold_answers(rt, case, &outcome, slot, turns).ok_or("not seen")?;
+        lines.push(leaves_line(case, turns, &seen))?;
+        for (total, mark) in tally.iter_mut().zip(marks(case, turns, &seen)) {
             *total = total.wrapping_add(mark as usize);
         }
     }
