@@ -12,5 +12,5 @@ mod tests;
 pub use gpi_values::Space;
 pub use gpt_descriptors::Geometry;
 pub use law::acts_mark_one_line;
-pub use line::{clean, line_mask, lines, touch};
+pub use line::{clean, is_resident, line_mask, lines, touch};
 pub use shared_words::Act;

@@ -2,7 +2,7 @@ ghost use Rattle.std.specs.Prelude.{◌≡◌, ◌<◌, ◌↔◌, IsTrue, IsSom
 ghost use Rattle.gpt_descriptors.specs.Sizes.{space_bytes};
 ghost use Rattle.gpt_descriptors.specs.Level0.{is_table};
 ghost use Rattle.gpt_descriptors.specs.Places.{l0_word_of};
-ghost use Rattle.alias_clean.specs.Lines.{space_bit, mask_of, line_bits, touch_of, clean_of};
+ghost use Rattle.alias_clean.specs.Lines.{space_bit, mask_of, is_resident, line_bits, touch_of, clean_of};
 
 use gpi_values::Space;
 use gpt_descriptors::Geometry;
@@ -55,6 +55,14 @@ pub fn clean(geometry: &Geometry, pa: u64, space: Space) -> Option<Act>
         Some(place) => Some(Act::And(place, !mask)),
         None => None,
     }
+}
+
+/// Whether the line of a granule's place, 0 to 15, and a space is resident, by their line word.
+pub fn is_resident(word: u64, place: u64, space: Space) -> bool
+    requires { place < 16 }
+    ensures { result ≡ is_resident word place space }
+{
+    (word >> (4 * place + space_bit(space))) % 2 == 1
 }
 
 /// The bits of a granule's place, 0 to 15, in its line word: bit 0 for Secure, 1 for Non-secure, 2

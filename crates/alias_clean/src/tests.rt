@@ -70,6 +70,18 @@ fn the_bits_of_a_place_are_its_lines(rt: HostRuntime) -> Result<(), Fail> {
             4,
             "at {place}"
         );
+        let bit = place % 2 == 1;
+        assert_eq!(rt; is_resident(word, place, Space::Secure), bit, "at {place}");
+    }
+    for (place, space, wanted) in [
+        (15, Space::Realm, true),
+        (14, Space::Secure, false),
+        (14, Space::NonSecure, true),
+        (5, Space::Root, true),
+        (5, Space::NonSecure, false),
+        (8, Space::Realm, true),
+    ] {
+        assert_eq!(rt; is_resident(word, place, space), wanted, "at {place}");
     }
     assert_eq!(rt; lines(line_mask(3, Space::Realm), 4), 0);
     Ok(())

@@ -3,11 +3,11 @@ use Rattle.std.proofs.Common.{◌≡◌, ◌≢◌, ℕ, zero, suc, ◌+◌, ◌
 use Rattle.std.specs.Prelude.{slice_get, slice_index, is_some, MatchOption}
 use Rattle.std.specs.List.{count_by}
 use Rattle.std.proofs.lemmas.List.{set-get_or, get_or-set_same}
-use Rattle.alias_clean.specs.Lines.{line_mask, touch_of}
+use Rattle.alias_clean.specs.Lines.{line_mask, touch_of, has_line}
 use Rattle.delegate_ops.specs.InnerAgents as agents
 use Rattle.gpi_values.specs.Values.{permits_of}
 use Rattle.shared_words.specs.Acts.{written}
-use Rattle.core_machine.specs.Lines.{has_line, is_allowed_look, seen_in}
+use Rattle.core_machine.specs.Lines.{is_allowed_look, seen_in}
 use Rattle.core_machine.specs.InnerCpuCaller.{Decision, cpu_decided, cpu_touching, decided_at, decided_under, decision_of, touch_by, touching_at, touching_under}
 use Rattle.core_machine.specs.InnerCallers.{unpassed_by, uncleaned_by}
 use Rattle.core_machine.specs.InnerLines.{DecisionHolds, LineHolds}

@@ -13,9 +13,8 @@ use Rattle.gpi_values.specs.Values.{gpi_of_space, permits_of}
 use Rattle.gpt_descriptors.specs.Sizes.{granule_number, place_in_word}
 use Rattle.gpt_descriptors.proofs.PlaceLemmas.{l1_index_one, place_below, place_distinct}
 use Rattle.shared_words.specs.Acts.{written}
-use Rattle.alias_clean.specs.Lines.{space_bit, is_resident, is_line, line_mask, touch_of, clean_of}
+use Rattle.alias_clean.specs.Lines.{space_bit, is_resident, is_line, line_mask, touch_of, clean_of, line_at, has_line}
 use Rattle.alias_clean.proofs.LineLemmas.{touched_line, cleaned_line}
-use Rattle.core_machine.specs.Lines.{line_at, has_line}
 use Rattle.core_machine.proofs.AddressLemmas.{index_below, word_by_granule}
 
 -- ---- one act on one line

@@ -2,12 +2,13 @@
 use Rattle.std.proofs.Common.{◌≡◌, ℕ, ◌⊎◌, ◌++◌, ◌∷◌, [], List, Bool, true, false, Some, None, set, refl, sym, ap, ◌∙◌, subst, inl, inr}
 use Rattle.std.specs.Prelude.{slice_get}
 use Rattle.std.proofs.lemmas.Bool.{cases_Bool}
+use Rattle.alias_clean.specs.Lines.{has_line}
 use Rattle.core_machine.proofs.Names.{Gpi, GeometryData, Entry, Caller, Scene, map_in, number_by}
 use Rattle.core_machine.proofs.Names.caller
 use Rattle.gpi_values.specs.declared.gpi.Space.{Space}
 use Rattle.gpi_values.specs.Values.{permits_of}
 use Rattle.history.specs.Entries.{changes_granule}
-use Rattle.core_machine.specs.Lines.{is_allowed_look, seen_after, is_seen_since, seen_in, has_line}
+use Rattle.core_machine.specs.Lines.{is_allowed_look, seen_after, is_seen_since, seen_in}
 use Rattle.core_machine.specs.InnerCpuCaller.{Decision}
 use Rattle.core_machine.specs.InnerCallers.{unpassed_by, uncleaned_by, decided_by, touching_by}
 use Rattle.core_machine.specs.InnerWalks.{In}

@@ -11,8 +11,7 @@ use Rattle.std.proofs.lemmas.List.FromFn.{length-map-range_with_len, get_or-map-
 use Rattle.std.proofs.lemmas.Nat.{div_below}
 use Rattle.std.proofs.lemmas.Option.{get_or_from_slice_get, slice_get_within}
 use Rattle.gpi_values.specs.declared.gpi.Space.{Space}
-use Rattle.alias_clean.specs.Lines.{bit_of, is_resident}
-use Rattle.core_machine.specs.Lines.{has_line, line_at}
+use Rattle.alias_clean.specs.Lines.{bit_of, is_resident, has_line, line_at}
 use Rattle.core_machine.specs.InnerCpuCaller.{Decision}
 use Rattle.core_machine.specs.InnerCallers.{decided_by}
 use Rattle.core_machine.specs.InnerCallers.{unraised_by, walks_by}

@@ -13,7 +13,7 @@ use Rattle.gpi_values.specs.declared.security.Source.TheVariants as source
 use Rattle.gpi_values.specs.Values.{own_of, permits_of}
 use Rattle.gpi_values.specs.declared.gpi.Space.TheVariants as space
 use Rattle.gpt_descriptors.specs.Sizes.{granule_number}
-use Rattle.alias_clean.specs.Lines.{clean_of}
+use Rattle.alias_clean.specs.Lines.{clean_of, has_line}
 use Rattle.invalidate.specs.Barrier.{BarrierData, begun, one_passed}
 use Rattle.fuse.specs.Merging.{FuseData}
 use Rattle.delegate_ops.specs.declared.stage.Change.TheVariants as change
@@ -24,7 +24,7 @@ use Rattle.delegate_ops.specs.InnerAgents.{IsChangeOf, IsCleaned, IsPrepared, cl
 use Rattle.delegate_ops.proofs.SpaceLemmas.{former_gpi}
 use Rattle.processor.specs.InnerCpus as cpus
 use Rattle.processor.specs.InnerProgress as progress
-use Rattle.core_machine.specs.Lines.{has_line, seen_in}
+use Rattle.core_machine.specs.Lines.{seen_in}
 use Rattle.core_machine.specs.InnerCpuCaller.{Decision, decided_under}
 use Rattle.core_machine.specs.InnerAgentCaller.{unpassed_at, uncleaned_at}
 use Rattle.core_machine.specs.InnerCallers.{decided_by}

@@ -1,6 +1,7 @@
 -- What a run leaves: its trace, and what answers and words are for the trace's history.
 use Rattle.std.proofs.Common.{◌≡◌, ℕ, zero, suc, ◌+◌, ◌*◌, ◌<◌, ◌≤◌, not, ◌⊎◌, ◌++◌, ◌∷◌, [], List, true, false, map, length, Option, Some, None, get_or, refl, sym, ap, ◌∙◌, subst, arith, inl, inr, Bool, ◌&&◌}
 use Rattle.std.specs.Prelude.{slice_get, slice_index, is_some, Result, Ok, Err, IfOk}
+use Rattle.alias_clean.specs.Lines.{has_line}
 use Rattle.history.specs.declared.outcome.Outcome.{Outcome}
 use Rattle.std.specs.List.{All, count_by}
 use Rattle.std.specs.Option.{option_map}
@@ -11,7 +12,7 @@ use Rattle.history.specs.Rings.{AreRinged, HasRings, IsRinged, named_in}
 use Rattle.history.specs.declared.rings.Named.{Named}
 use Rattle.processor.proofs.RingLemmas.{walked_ringed}
 use Rattle.gpi_values.specs.Values.{permits_of}
-use Rattle.core_machine.specs.Lines.{AreAtRest, AreCleaned, AreTouched, has_line, seen_in}
+use Rattle.core_machine.specs.Lines.{AreAtRest, AreCleaned, AreTouched, seen_in}
 use Rattle.core_machine.specs.InnerCpuCaller.{touching_under}
 use Rattle.core_machine.specs.InnerCallers.{touching_by}
 use Rattle.core_machine.proofs.AddressLemmas.{lock_of}

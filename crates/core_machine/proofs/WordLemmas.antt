@@ -6,8 +6,7 @@ use Rattle.std.specs.Int.{bit_at}
 use Rattle.std.proofs.lemmas.List.{length-set, get_or-set_other}
 use Rattle.core_machine.proofs.Names.{Gpi, Size, size_bytes, space_bytes, GeometryData, IsGeometry, WordName, IsWordName, Lock, Generation, Duty, Level1, Line, place_of, l0_words, l1_index, gen_place_of, blocks_in_region, lock_number, lock_bit, AreWords, generation_word}
 use Rattle.gpi_values.specs.declared.gpi.Space.{Space}
-use Rattle.alias_clean.specs.Lines.{is_resident}
-use Rattle.core_machine.specs.Lines.{line_at, has_line}
+use Rattle.alias_clean.specs.Lines.{is_resident, line_at, has_line}
 use Rattle.gpt_descriptors.proofs.PlaceLemmas.{place_distinct, generation_named}
 use Rattle.core_machine.proofs.AddressLemmas.{index_below, lock_by_region, lock_of}
 

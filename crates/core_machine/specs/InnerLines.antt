@@ -5,9 +5,10 @@ use Rattle.gpi_values.specs.declared.gpi.Gpi.{Gpi}
 use Rattle.gpi_values.specs.declared.gpi.Space.{Space}
 use Rattle.gpi_values.specs.Values.{permits_of}
 use Rattle.gpt_descriptors.specs.Places.{GeometryData}
+use Rattle.alias_clean.specs.Lines.{has_line}
 use Rattle.history.specs.declared.entry.Entry.{Entry}
 use Rattle.core_machine.specs.declared.caller.Caller.{Caller}
-use Rattle.core_machine.specs.Lines.{seen_in, has_line}
+use Rattle.core_machine.specs.Lines.{seen_in}
 use Rattle.core_machine.specs.InnerCpuCaller.{Decision}
 use Rattle.core_machine.specs.InnerCallers.{number_by, unpassed_by, uncleaned_by, decided_by, touching_by}
 use Rattle.core_machine.specs.InnerWalks.{In, SomeHas}

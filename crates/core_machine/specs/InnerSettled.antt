@@ -10,6 +10,7 @@ use Rattle.gpt_descriptors.specs.Entries.{word_gpi}
 use Rattle.gpt_descriptors.specs.Places.{GeometryData}
 use Rattle.shared_words.specs.declared.act.Act.{Act}
 use Rattle.shared_words.specs.Acts.{after_act, answer_of}
+use Rattle.alias_clean.specs.Lines.{has_line}
 use Rattle.walk_cache.specs.declared.walk.Walk.{Walk}
 use Rattle.walk_cache.specs.Rings.{covers}
 use Rattle.history.specs.declared.call.Task.{Task}
@@ -20,7 +21,6 @@ use Rattle.delegate_ops.specs.InnerAgents.{AgentData, task_of}
 use Rattle.delegate_ops.specs.Script.{granule_of_task}
 use Rattle.core_machine.specs.declared.caller.Caller.{Caller}
 use Rattle.core_machine.specs.declared.caller.Caller.TheVariants as caller
-use Rattle.core_machine.specs.Lines.{has_line}
 use Rattle.core_machine.specs.InnerCpuCaller.{Decision}
 use Rattle.core_machine.specs.InnerCallers.{caller_next, caller_took, decided_by, made_by, uncleaned_by, walks_by}
 use Rattle.core_machine.specs.InnerScene.{Scene, map_in, scene_after}

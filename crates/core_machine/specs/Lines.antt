@@ -1,13 +1,12 @@
 -- Resident lines: which of them a history leaves where no access and no transition is under way.
-use Rattle.std.specs.Prelude.{◌≡◌, ℕ, ◌/◌, ◌%◌, ◌*◌, ◌<◌, Bool, true, false, ◌&&◌, ◌||◌, ◌==◌, List, [], ◌∷◌, slice_index, Option, Some, None, if◌then◌else◌}
+use Rattle.std.specs.Prelude.{◌≡◌, ℕ, ◌*◌, ◌<◌, Bool, true, false, ◌&&◌, ◌||◌, ◌==◌, List, [], ◌∷◌, slice_index, if◌then◌else◌}
 use Rattle.gpi_values.specs.declared.gpi.Gpi.{Gpi}
 use Rattle.gpi_values.specs.declared.gpi.Space.{Space}
 use Rattle.gpi_values.specs.Values.{gpi_of_space, permits_of}
-use Rattle.gpt_descriptors.specs.Level0.{l1_index}
-use Rattle.gpt_descriptors.specs.Places.{GeometryData, Duty, Line, place_of, l0_words}
+use Rattle.gpt_descriptors.specs.Places.{GeometryData, Duty, place_of}
 use Rattle.gpt_descriptors.specs.Sizes.{granule_bytes}
 use Rattle.bit_locks.specs.Locks.{lock_bit, lock_number}
-use Rattle.alias_clean.specs.Lines.{is_resident}
+use Rattle.alias_clean.specs.Lines.{has_line}
 use Rattle.history.specs.declared.entry.Entry.{Entry}
 use Rattle.history.specs.declared.entry.Entry.TheVariants as entry
 use Rattle.history.specs.Entries.{changes_granule}
@@ -30,16 +29,6 @@ is_seen_since granule s seen (e ∷ h) = is_seen_since granule s (seen_after gra
 
 abbrev pub seen_in : ℕ → Space → List Entry → Bool
 seen_in granule s h = is_seen_since granule s false h
-
--- the line of a granule and a space is resident in the words; none is below an L0 block
-abbrev pub line_at : GeometryData → List ℕ → Option ℕ → ℕ → Space → Bool
-line_at g words None granule s = false
-line_at g words (Some i) granule s =
-    is_resident (slice_index words (place_of g (Line i))) (granule % 16) s
-
-abbrev pub has_line : GeometryData → List ℕ → ℕ → Space → Bool
-has_line g words granule s =
-    line_at g words (l1_index g.setup (l0_words g) (granule / 16)) granule s
 
 -- Lines at rest: a line is resident exactly where the map permits its space and an allowed access
 -- to it stands in the history with no change of the granule after it.

@@ -18,9 +18,10 @@ use Rattle.gpt_descriptors.specs.Level0.{is_table, table_count, l1_index}
 use Rattle.gpt_descriptors.specs.Places.{GeometryData, IsGeometry, Generation, Line, place_of, word_count, l0_words, blocks_in_region, l1_index_of, line_place_of}
 use Rattle.gpt_descriptors.proofs.SizeLemmas.{word_is, table_whole, table_words_low, word_bytes_low, granule_low}
 use Rattle.gpt_descriptors.proofs.PlaceLemmas.{index_within, place_below}
+use Rattle.alias_clean.specs.Lines.{bit_of, line_at}
 use Rattle.line_text.specs.Lines.{address}
 use Rattle.report_text.specs.TablesText.{line}
-use Rattle.report_text.specs.RunText.{held_line, held_text, tables_part_text, generations_text, generation_line, lines_text, state_text, granule_lines, is_set_at, space_number}
+use Rattle.report_text.specs.RunText.{held_line, held_text, tables_part_text, generations_text, generation_line, lines_text, state_text, granule_lines}
 use Rattle.report_text.specs.RunParts.{changed_line, set_line, set_lines, word_lines, granules_text, held_upto, generations_upto}
 
 -- ---- texts of numbers in a row
@@ -90,13 +91,9 @@ generation_line_is g words z block start first es ef =
 -- ---- the lines of a line word
 
 pub set_lines_are : (pa word k : ℕ)
-    → set_lines pa word k ≡ ((set_line pa word (4 * k) space.Secure ++ set_line pa word (4 * k + 1) space.NonSecure) ++ set_line pa word (4 * k + 2) space.Root) ++ set_line pa word (4 * k + 3) space.Realm
+    → set_lines pa word k ≡ ((set_line pa word k space.Secure ++ set_line pa word k space.NonSecure) ++ set_line pa word k space.Root) ++ set_line pa word k space.Realm
 unfolding set_lines
-set_lines_are pa word k =
-    let none : 4 * k + 0 ≡ 4 * k = omega arith in
-    ap (λ (bit : ℕ). set_line pa word bit space.Secure
-    ++ (set_line pa word (4 * k + 1) space.NonSecure ++ (set_line pa word (4 * k + 2) space.Root ++ (set_line pa word (4 * k + 3) space.Realm ++ [])))) none
-    ∙ three_more (set_line pa word (4 * k) space.Secure) (set_line pa word (4 * k + 1) space.NonSecure) (set_line pa word (4 * k + 2) space.Root) (set_line pa word (4 * k + 3) space.Realm)
+set_lines_are pa word k = three_more (set_line pa word k space.Secure) (set_line pa word k space.NonSecure) (set_line pa word k space.Root) (set_line pa word k space.Realm)
 
 pub word_lines_none : (bytes word first : ℕ) → word_lines bytes word first 0 ≡ []
 unfolding word_lines
@@ -106,12 +103,12 @@ pub word_lines_more : (bytes word first k : ℕ) → word_lines bytes word first
 unfolding word_lines
 word_lines_more bytes word first k = flat_next (λ (j : ℕ). set_lines ((first + j) * bytes) word j) k
 
-no_line : (pa bit : ℕ) (s : Space) → set_line pa 0 bit s ≡ []
-no_line pa bit s = rw (bit_at-zero bit) refl
+no_line : (pa k : ℕ) (s : Space) → set_line pa 0 k s ≡ []
+no_line pa k s = rw (bit_at-zero (bit_of k s)) refl
 
 no_set_lines : (pa k : ℕ) → set_lines pa 0 k ≡ []
 unfolding set_lines
-no_set_lines pa k = rw (no_line pa (4 * k + 0) space.Secure, no_line pa (4 * k + 1) space.NonSecure, no_line pa (4 * k + 2) space.Root, no_line pa (4 * k + 3) space.Realm) refl
+no_set_lines pa k = rw (no_line pa k space.Secure, no_line pa k space.NonSecure, no_line pa k space.Root, no_line pa k space.Realm) refl
 
 pub no_word_lines : (bytes first n : ℕ) → word_lines bytes 0 first n ≡ []
 unfolding word_lines
@@ -142,13 +139,14 @@ exact : (x n : ℕ) → 0 < n → x * n / n ≡ x
 exact x n low = ap (λ (y : ℕ). y / n) (sym (add-zero (x * n))) ∙ div-mul-add x n 0 low
 
 -- the line word of a granule
+word_of_granule : (s : SetupData) (n : ℕ) → n * granule_bytes s / word_bytes s ≡ n / 16
+word_of_granule s n =
+    ap (λ (m : ℕ). n * granule_bytes s / m) (word_is s ∙ mul_comm 16 (granule_bytes s))
+    ∙ (sym (div-div-eq-div-mul (n * granule_bytes s) (granule_bytes s) 16)
+    ∙ ap (λ (m : ℕ). m / 16) (exact n (granule_bytes s) (omega (arith, granule_low s))))
+
 granule_word : (s : SetupData) (w k : ℕ) → k < 16 → (16 * w + k) * granule_bytes s / word_bytes s ≡ w
-granule_word s w k lt =
-    let low : 0 < granule_bytes s = omega (arith, granule_low s) in
-    let last : (16 * w + k) / 16 ≡ w = omega arith in
-    ap (λ (n : ℕ). (16 * w + k) * granule_bytes s / n) (word_is s ∙ mul_comm 16 (granule_bytes s))
-    ∙ (sym (div-div-eq-div-mul ((16 * w + k) * granule_bytes s) (granule_bytes s) 16)
-    ∙ (ap (λ (n : ℕ). n / 16) (exact (16 * w + k) (granule_bytes s) low) ∙ last))
+granule_word s w k lt = let last : (16 * w + k) / 16 ≡ w = omega arith in word_of_granule s (16 * w + k) ∙ last
 
 -- the first word of a gigabyte
 region_word : (s : SetupData) (r : ℕ) → r * region_bytes / word_bytes s ≡ r * table_words s
@@ -189,21 +187,34 @@ line_within g r j start is lt e = line_below g _ (start + j) is (place_some g r 
 
 -- ---- the lines of granules
 
-abbrev lines_with : List ℕ → ℕ → Option ℕ → ℕ → List ℕ
-lines_with words pa place k =
-    flat_map (λ (s : Space). if is_set_at words place (4 * k + space_number s) then line (codes "line" ∷ address pa ∷ space_name_of s ∷ []) else [])
+abbrev lines_with : GeometryData → List ℕ → ℕ → Option ℕ → List ℕ
+lines_with g words n o =
+    flat_map (λ (s : Space). if line_at g words o n s then line (codes "line" ∷ address (n * granule_bytes g.setup) ∷ space_name_of s ∷ []) else [])
     (space.Secure ∷ space.NonSecure ∷ space.Root ∷ space.Realm ∷ [])
+
+-- a granule's line place is that of its line word
+place_of_granule : (g : GeometryData) (n : ℕ) (o : Option ℕ) → line_place_of g (n * granule_bytes g.setup) ≡ o → option_map (λ (i : ℕ). place_of g (Line i)) (l1_index g.setup (l0_words g) (n / 16)) ≡ o
+place_of_granule g n o e =
+    ap (λ (w : ℕ). option_map (λ (i : ℕ). place_of g (Line i)) (l1_index g.setup (l0_words g) w)) (sym (word_of_granule g.setup n)) ∙ e
 
 granule_some : (g : GeometryData) (words : List ℕ) (w k p : ℕ) → k < 16 → line_place_of g ((16 * w + k) * granule_bytes g.setup) ≡ Some p
     → granule_lines g words (16 * w + k) ≡ set_lines ((16 * w + k) * granule_bytes g.setup) (slice_index words p) k
 unfolding set_lines
 granule_some g words w k p lt e =
+    let n : ℕ = 16 * w + k in
     let rest : (16 * w + k) % 16 ≡ k = omega arith in
-    ap (λ (o : Option ℕ). lines_with words ((16 * w + k) * granule_bytes g.setup) o ((16 * w + k) % 16)) e
-    ∙ ap (lines_with words ((16 * w + k) * granule_bytes g.setup) (Some p)) rest
+    let found = mapped g (l1_index g.setup (l0_words g) (n / 16)) p (place_of_granule g n (Some p) e) in
+    ap (lines_with g words n) found.1.0
+    ∙ (ap (λ (q : ℕ). set_lines (n * granule_bytes g.setup) (slice_index words q) (n % 16)) found.1.1
+    ∙ ap (set_lines (n * granule_bytes g.setup) (slice_index words p)) rest)
+
+unmapped : (g : GeometryData) (o : Option ℕ) → option_map (λ (i : ℕ). place_of g (Line i)) o ≡ None → o ≡ None
+unmapped g None e = refl
+unmapped g (Some i) e = absurd cc
 
 granule_none : (g : GeometryData) (words : List ℕ) (n : ℕ) → line_place_of g (n * granule_bytes g.setup) ≡ None → granule_lines g words n ≡ []
-granule_none g words n e = ap (λ (o : Option ℕ). lines_with words (n * granule_bytes g.setup) o (n % 16)) e
+granule_none g words n e =
+    ap (lines_with g words n) (unmapped g (l1_index g.setup (l0_words g) (n / 16)) (place_of_granule g n None e))
 
 -- a line word of a table
 word_is_lines : (g : GeometryData) (words : List ℕ) (r j start n : ℕ) → n ≤ 16 → j < table_words g.setup → line_place_of g (r * region_bytes) ≡ Some start

@@ -1,19 +1,19 @@
 -- Parts of the text of a run, as the functions append them.
 use Rattle.std.specs.Prelude.{ℕ, ◌+◌, ◌*◌, Bool, not, ◌&&◌, List, [], ◌∷◌, ◌++◌, codes, ◌==◌, if◌then◌else◌}
 use Rattle.std.specs.List.{flat_map, range_with_len}
-use Rattle.std.specs.Int.{bit_at}
 use Rattle.std.specs.Fmt.{signed_decimal}
 use Rattle.gpi_values.specs.declared.gpi.Space.{Space}
 use Rattle.gpi_values.specs.Names.{space_name_of}
 use Rattle.gpt_descriptors.specs.declared.size.Size.{Size}
 use Rattle.gpt_descriptors.specs.Sizes.{table_words}
 use Rattle.gpt_descriptors.specs.Places.{GeometryData}
+use Rattle.alias_clean.specs.Lines.{is_resident}
 use Rattle.history.specs.declared.call.Answer.{Answer}
 use Rattle.history.specs.Legality.{is_seen}
 use Rattle.rmm_calls.specs.Codes.{code_of}
 use Rattle.line_text.specs.Lines.{count, address}
 use Rattle.report_text.specs.TablesText.{line}
-use Rattle.report_text.specs.RunText.{size_name, all_spaces, space_number, held_line, generation_line, granule_lines}
+use Rattle.report_text.specs.RunText.{size_name, all_spaces, held_line, generation_line, granule_lines}
 
 -- the code of a monitor call and its word, each after a space
 abbrev pub code_text : Bool → Answer → List ℕ
@@ -25,15 +25,16 @@ abbrev pub changed_line : Size → ℕ → ℕ → ℕ → List ℕ
 changed_line z block value first =
     if value == first then [] else line (codes "gen" ∷ size_name z ∷ count block ∷ count value ∷ [])
 
--- the line of a granule in a space, by a bit of a line word
+-- the line of granule k of the sixteen of a line word, in a space
 abbrev pub set_line : ℕ → ℕ → ℕ → Space → List ℕ
-set_line pa word bit space =
-    if bit_at word bit == 1 then line (codes "line" ∷ address pa ∷ space_name_of space ∷ []) else []
+set_line pa word k space =
+    if is_resident word k space
+    then line (codes "line" ∷ address pa ∷ space_name_of space ∷ [])
+    else []
 
--- the lines of granule k of the sixteen of a line word
+-- the lines of that granule
 unfoldable pub set_lines : ℕ → ℕ → ℕ → List ℕ
-set_lines pa word k =
-    flat_map (λ space. set_line pa word (4 * k + space_number space) space) all_spaces
+set_lines pa word k = flat_map (set_line pa word k) all_spaces
 
 -- the lines of n granules of a line word, the first of which has this number
 unfoldable pub word_lines : ℕ → ℕ → ℕ → ℕ → List ℕ

@@ -1,8 +1,7 @@
 -- The text of a run: what each call was answered, which calls are left, which locks are held, the
 -- tables, the generations that have changed, and the resident lines.
-use Rattle.std.specs.Prelude.{◌≡◌, ℕ, ◌+◌, ◌-◌, ◌*◌, ◌%◌, Bool, true, false, not, ◌&&◌, List, [], ◌∷◌, ◌++◌, length, map, slice_index, codes, Option, Some, None, ◌==◌, if◌then◌else◌}
+use Rattle.std.specs.Prelude.{◌≡◌, ℕ, ◌+◌, ◌-◌, ◌*◌, Bool, true, false, not, ◌&&◌, List, [], ◌∷◌, ◌++◌, length, map, codes, ◌==◌, if◌then◌else◌}
 use Rattle.std.specs.List.{flat_map, range_with_len}
-use Rattle.std.specs.Int.{bit_at}
 use Rattle.std.specs.Fmt.{signed_decimal}
 use Rattle.gpi_values.specs.declared.gpi.Space.{Space}
 use Rattle.gpi_values.specs.declared.gpi.Space.TheVariants as space
@@ -12,8 +11,9 @@ use Rattle.gpt_descriptors.specs.declared.size.Size.TheVariants as size
 use Rattle.gpt_descriptors.specs.declared.size.Reach.{Reach}
 use Rattle.gpt_descriptors.specs.declared.size.Reach.TheVariants as reach
 use Rattle.gpt_descriptors.specs.Sizes.{granule_bytes, space_granules}
-use Rattle.gpt_descriptors.specs.Places.{GeometryData, l0_words, blocks_in_region, line_place_of, word_count, table_part, generation_word}
+use Rattle.gpt_descriptors.specs.Places.{GeometryData, l0_words, blocks_in_region, word_count, table_part, generation_word}
 use Rattle.bit_locks.specs.Locks.{lock_bit}
+use Rattle.alias_clean.specs.Lines.{has_line}
 use Rattle.history.specs.declared.call.Answer.{Answer}
 use Rattle.history.specs.declared.call.Answer.TheVariants as answer
 use Rattle.history.specs.declared.call.Via.{Via}
@@ -156,24 +156,9 @@ generations_text g words z =
 abbrev pub all_spaces : List Space
 all_spaces = space.Secure ∷ space.NonSecure ∷ space.Root ∷ space.Realm ∷ []
 
-abbrev pub space_number : Space → ℕ
-space_number space.Secure = 0
-space_number space.NonSecure = 1
-space_number space.Root = 2
-space_number space.Realm = 3
-
-abbrev pub is_set_at : List ℕ → Option ℕ → ℕ → Bool
-is_set_at words None bit = false
-is_set_at words (Some place) bit = bit_at (slice_index words place) bit == 1
-
-abbrev pub is_resident : GeometryData → List ℕ → ℕ → Space → Bool
-is_resident g words granule space =
-    is_set_at words (line_place_of g (granule * granule_bytes g.setup))
-    (4 * (granule % 16) + space_number space)
-
 abbrev pub resident_line : GeometryData → List ℕ → ℕ → Space → List ℕ
 resident_line g words granule space =
-    if is_resident g words granule space
+    if has_line g words granule space
     then line (codes "line" ∷ address (granule * granule_bytes g.setup) ∷ space_name_of space ∷ [])
     else []
 

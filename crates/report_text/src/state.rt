@@ -8,6 +8,7 @@ ghost use Rattle.report_text.specs.InnerAdding.{Adds};
 use crate::answers::name_of_size;
 use crate::level::Level;
 use crate::tables::{push_runs, push_tables};
+use alias_clean::is_resident;
 use gpi_values::{Space, space_name};
 use gpt_descriptors::{Geometry, REGION_BYTES, Size};
 use std::alloc::AllocError;
@@ -113,18 +114,18 @@ fn push_generations(
     Ok(())
 }
 
-/// Appends the line of a resident line, where its bit of a line word is set.
+/// Appends the line of a granule of a line word and a space, where it is resident.
 fn push_line(
     out: &mut String,
     address: u64,
     word: u64,
-    bit: u64,
+    granule: u64,
     space: Space,
 ) -> Result<(), AllocError>
-    requires { bit < 64 }
-    ensures { OnOk result (Adds out.old (set_line address word bit space) out.new) }
+    requires { granule < 16 }
+    ensures { OnOk result (Adds out.old (set_line address word granule space) out.new) }
 {
-    if (word >> bit) % 2 == 1 {
+    if is_resident(word, granule, space) {
         let space = space_name(space);
         write!(out, "line 0x{address:x} {space}\n")?;
     }
@@ -136,10 +137,10 @@ fn push_granule(out: &mut String, address: u64, word: u64, granule: u64) -> Resu
     requires { granule < 16 }
     ensures { OnOk result (Adds out.old (set_lines address word granule) out.new) }
 {
-    push_line(out, address, word, 4 * granule, Space::Secure)?;
-    push_line(out, address, word, 4 * granule + 1, Space::NonSecure)?;
-    push_line(out, address, word, 4 * granule + 2, Space::Root)?;
-    push_line(out, address, word, 4 * granule + 3, Space::Realm)
+    push_line(out, address, word, granule, Space::Secure)?;
+    push_line(out, address, word, granule, Space::NonSecure)?;
+    push_line(out, address, word, granule, Space::Root)?;
+    push_line(out, address, word, granule, Space::Realm)
 }
 
 /// Appends the resident lines of the first granules of a line word, the first of which has this
