@@ -27,7 +27,7 @@ use Rattle.processor.specs.InnerEntries.{decided_entries, entries_at, own_entrie
 use Rattle.processor.specs.InnerCpus.{task_of}
 use Rattle.processor.specs.InnerScript.{HasWalked}
 use Rattle.processor.specs.Script.{AreCallEvents, IsCall, IsLook}
-use Rattle.core_machine.specs.Facts.{IsAccessAnswer, is_walked}
+use Rattle.core_machine.specs.Facts.{IsAccessAnswer, is_at_table}
 use Rattle.core_machine.proofs.AddressLemmas.{granule_within}
 use Rattle.core_machine.proofs.CpuActs.{answers_seen}
 use Rattle.core_machine.proofs.DecidedLemmas.{IsTableAccess, decided_access}
@@ -47,10 +47,10 @@ access_looks g t access = absurd access
 -- ---- their answers
 
 look_answer : (g : GeometryData) (p c n pa : ℕ) (space : Space) (o : Option Gpi) (kept : List Walk) (given : Answer) (later : List Walk) (events : List CallEvent) → IsLook g p c n pa space o kept given later events
-    → MatchOption o (is_walked given ≡ true) (λ gpi. given ≡ block_answer space gpi)
+    → MatchOption o (is_at_table given ≡ true) (λ gpi. given ≡ block_answer space gpi)
 look_answer g p c n pa space (Some gpi) kept given later events look = look.0
 look_answer g p c n pa space None kept given later events look =
-    subst (λ (a : Answer). is_walked a ≡ true) (sym look.is) (rw (decided_access g p c n pa space kept look.access later look.deciding look.decided).walked refl)
+    subst (λ (a : Answer). is_at_table a ≡ true) (sym look.is) (rw (decided_access g p c n pa space kept look.access later look.deciding look.decided).walked refl)
 
 -- an answered access is answered by its block, or by a walk where there is none
 pub access_answer : (g : GeometryData) (p c n k : ℕ) (tasks : List Task) (kept : List Walk) (answers : List Answer) (later : List Walk) (events : List CallEvent) (pa : ℕ) (space : Space) (given : Answer)

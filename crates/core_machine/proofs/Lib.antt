@@ -41,7 +41,7 @@ pub mod TraceLemmas
 pub mod AnswerLemmas
 pub mod PartLemmas
 pub mod FreeLemmas
-pub mod QuietLemmas
+pub mod NothingLeftLemmas
 pub mod RunLemmas
 pub mod CallerLaws
 pub mod StillLemmas

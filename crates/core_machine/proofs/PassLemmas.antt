@@ -80,7 +80,7 @@ last_unpassed g p t u k = merging_unpassed g p _ _ k.generations u
 last_uncleaned : (g : GeometryData) (t u : Task) (k : Kept) → uncleaned_at g (last_stage g t k) (Some u) ≡ []
 last_uncleaned g t u k = merged_uncleaned g _ _ k.generations u
 
--- behind a barrier nothing is unpassed, and what the former GPI permits isn't cleaned, unless it is none
+-- after a barrier nothing is unpassed, and what the former GPI permits isn't cleaned, unless it is none
 passed_unpassed : (g : GeometryData) (p : ℕ) (t : Task) (ch : Change) (k : Kept) → IsChangeOf t ch → unpassed_at g p (passed_stage g t ch k) (Some t) ≡ []
 passed_unpassed g p (task.Undelegate pa source) change.Last k is = last_unpassed g p (task.Undelegate pa source) (task.Undelegate pa source) k
 passed_unpassed g p (task.Undelegate pa source) change.First k is = refl
@@ -99,7 +99,7 @@ passed_uncleaned g (task.Look pa space) ch k is = absurd is
 -- ---- a barrier
 
 -- A transition at the barrier after this change, or at its last raise, has its pair unpassed for some processors, and
--- uncleaned. It goes on with so many passed, each of whom has decided nothing.
+-- uncleaned. It goes on with the first `d.passed` passed, each of whom has decided nothing.
 pub record Passes (g : GeometryData) (s : Scene) (t : Task) (st : Stage) (ch : Change) (d : BarrierData) : Type 0 where
   pub stands : HoldsIn g s
   pub change : IsChangeOf t ch

@@ -16,7 +16,7 @@ use Rattle.core_machine.specs.Lines.{AreAtRest, AreCleaned, AreTouched, seen_in}
 use Rattle.core_machine.specs.InnerCpuCaller.{touching_under}
 use Rattle.core_machine.specs.InnerCallers.{touching_by}
 use Rattle.core_machine.proofs.AddressLemmas.{lock_of}
-use Rattle.core_machine.proofs.QuietLemmas.{uncleaned_holds}
+use Rattle.core_machine.proofs.NothingLeftLemmas.{uncleaned_holds}
 use Rattle.processor.specs.InnerCpus.{task_of as cpu_task}
 use Rattle.core_machine.specs.InnerWalks.{In}
 use Rattle.core_machine.proofs.Names.{map_in, Gpi, Entry, start, after_entry, state_after, Size, granule_bytes, size_bytes, GeometryData, blocks_in_region, word_count, Duty, place_of, CallEvent, CpuData, IsCpu, Act, lock_number, lock_bit, Scenario, Script, Task, Answer, answer_at, count_of, AgentData, IsAgent, next_of, Caller, caller_next, caller_answers, known_answers, duty_by, number_by, holds, is_due, caller_tasks, IsMade, HoldsIn, InvariantFor, scene_of, caller_of, callers_from, cpu_number, opening_of, played, IsCounted, generation_word, TraceEvent, history_of, first_map, geometry_of, task_of_ask, task_of_look, turns_in, Scene, is_inside, coming_at}

@@ -98,7 +98,7 @@ module _ {s : Scene} {c : ℕ} {a : AgentData} {t : Task} {st : Stage} {ch : Cha
       (subst (λ (x : Step). AreWords a.geometry (map_in s) (apart_by a.geometry.setup (set (holders_of s.callers) c (record { granule = granule_of_task a.geometry t; step = x }))) after) (sym same)
       (words_left is.writes (map_in s) _ is.plain is.acting.stands.shape.geometry are))
 
--- ---- the last change of an undelegate, behind its first one
+-- ---- the last change of an undelegate, after its first one
 
 last_gives : (t : Task) (v : Gpi) → IsChangeOf t change.First → to_of t change.First ≡ v → from_of t change.Last ≡ v
 last_gives (task.Delegate pa source) v is gives = absurd is
@@ -205,7 +205,7 @@ settles_by {s = s} {c = c} {a = a} {t = t} {k = k} is index (Some v) equal =
 settles_last : {s : Scene} {c : ℕ} {a : AgentData} {t : Task} {st : Stage} {k : Kept} {n : Option WordName} {after : List ℕ} → Completes s c a t st change.Last k n after → Settles s c a t st change.Last k after (last_stage a.geometry t k)
 settles_last {a = a} {t = t} {k = k} is = settles_by is (number_of (l1_index_of a.geometry (address_of t))) (equal_gpi k.word) refl
 
--- ---- behind the raises, behind the barrier, and behind a clean
+-- ---- after the raises, after the barrier, and after a clean
 
 settles_passed : {s : Scene} {c : ℕ} {a : AgentData} {st : Stage} {k : Kept} {n : Option WordName} {after : List ℕ} (t : Task) (ch : Change) → Completes s c a t st ch k n after → Settles s c a t st ch k after (passed_stage a.geometry t ch k)
 settles_passed (task.Undelegate pa source) change.Last is = settles_last is

@@ -62,15 +62,15 @@ AreAlone s answers h =
 
 -- ---- accesses
 
--- the answer is of a walk of an L1 table
-abbrev pub is_walked : Answer → Bool
-is_walked (answer.Seen access) = not (is_still access.via)
-is_walked given = false
+-- the answer is of an access below an L0 table, by a walk that it made or that was kept
+abbrev pub is_at_table : Answer → Bool
+is_at_table (answer.Seen access) = not (is_still access.via)
+is_at_table given = false
 
 -- an access in an L0 block is answered by the block's GPI, any other by a walk
 abbrev pub IsAccessAnswer : GeometryData → ℕ → Space → Answer → Type 0
 IsAccessAnswer g pa space given =
-    MatchOption (block_gpi_of g pa) (is_walked given ≡ true) (λ gpi. given ≡ block_answer space gpi)
+    MatchOption (block_gpi_of g pa) (is_at_table given ≡ true) (λ gpi. given ≡ block_answer space gpi)
 
 -- An access that is decided after a change of its granule is complete, and before the next change
 -- of it, is decided, allowed and answered by the GPI that the map gives the granule there.

@@ -10,7 +10,7 @@ pub mod Lines
 pub mod InnerWalks
 pub mod InnerLines
 pub mod InnerInvariant
-pub mod InnerSettled
+pub mod InnerNothingLeft
 pub mod InnerLaw
 pub mod InnerCallerLaws
 pub mod InnerMachine

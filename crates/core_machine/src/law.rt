@@ -1,6 +1,6 @@
 ghost use Rattle.core_machine.specs.InnerLaw.{OneActKeeps};
 ghost use Rattle.core_machine.specs.InnerCallerLaws.{ActsHavePlaces, ActsKeepTheirCaller, AgentsGoOn, LocksHaveHolders, WaitsHaveCauses};
-ghost use Rattle.core_machine.specs.InnerSettled.{DoneIsQuiet, QuietIsSettled, QuietStays};
+ghost use Rattle.core_machine.specs.InnerNothingLeft.{DoneIsCleaned, CleanedHasNothingLeft, CleanedStays};
 
 /// The law of the core: whatever act a caller makes next, its place is one of the shared words, the
 /// caller can take its answer, and the invariant of the core holds again after it, with the history
@@ -25,12 +25,12 @@ pub fn waits_have_causes()
     ensures waits { WaitsHaveCauses }
 {}
 
-/// What a transition that is done leaves behind of its granule's former space: nothing. Where it is
-/// about to answer, no caller has the granule changed and not cleaned; of such a granule no kept walk
+/// When a transition is done, nothing is left of its granule's former space. Where it is about to
+/// answer, no caller has the granule changed and not cleaned; of such a granule no kept walk
 /// that could still hit, no access under way and no resident line is by another GPI than the map's;
 /// and so it stays until an act changes the granule again.
-pub fn done_leaves_nothing_behind()
-    ensures done { DoneIsQuiet }
-    ensures settled { QuietIsSettled }
-    ensures stays { QuietStays }
+pub fn nothing_is_left_at_done()
+    ensures done { DoneIsCleaned }
+    ensures settled { CleanedHasNothingLeft }
+    ensures stays { CleanedStays }
 {}

@@ -85,7 +85,7 @@ fn an_allowed_access_makes_its_line_resident(rt: HostRuntime) -> Result<(), Fail
 
 #[test]
 fn a_delegate_cleans_the_line_of_its_former_space_last(rt: HostRuntime) -> Result<(), Fail> {
-    // Behind the barrier, as its 12th act beside a processor. The line of the next granule stays.
+    // After the barrier, as its 12th act beside a processor. The line of the next granule stays.
     let calls =
         "agent\ndelegate 0x0 realm\ncpu\nlook 0x0 nonsecure\nlook 0x1000 nonsecure\nturn 1 12\n";
     for (turns, line, count) in [(11, 0x22, 0), (12, 0x20, 0), (13, 0x20, 1)] {

@@ -243,7 +243,7 @@ passed_prefix g c n (task.Undelegate pa source) change.Last k place events acts 
 passed_prefix g c n task.Unknown ch k place events acts is there changing = absurd is
 passed_prefix g c n (task.Look pa space) ch k place events acts is there changing = absurd is
 
--- with so many processors passed
+-- with the first `d.passed` processors passed
 pub passing_prefix : (g : GeometryData) (c n : ℕ) (t : Task) (ch : Change) (d : BarrierData) (k : Kept) (place : ℕ) (changing barrier : List CallEvent) → idle_answer g t ≡ None → IsChangeOf t ch
     → l1_place_of g (address_of t) ≡ Some place → d.cpus ≡ g.cpus → d.passed ≤ d.cpus
     → IsChanging g c n t place (Passes ∷ parts_after g c n t place ch k) (generations_after ch k.generations) (word_after_change g t ch k.word) changing → ArePassed g d.passed barrier

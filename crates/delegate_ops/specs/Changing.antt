@@ -72,8 +72,8 @@ abbrev pub target_space : Task → Space
 target_space (task.Delegate pa source) = own_space source
 target_space t = space.NonSecure
 
--- and each change is followed by cleaning of the one that its former GPI permits, which is none
--- after no access
+-- and each change is followed by cleaning of the one that its former GPI permits; for the last
+-- change of an undelegate, which is from no access, this value isn't used
 abbrev pub former_space : Task → Change → Space
 former_space (task.Undelegate pa source) change.First = own_space source
 former_space t c = space.NonSecure

@@ -58,7 +58,8 @@ pub fn target_space(task: Task) -> Space
     }
 }
 
-/// The space that the former GPI of a change permits.
+/// The space that the former GPI of a change permits. For the last change of an undelegate,
+/// which is from no access, the value isn't used.
 fn former_space(task: Task, change: Change) -> Space
     ensures { result ≡ former_space task change }
 {

@@ -1,5 +1,5 @@
 -- The events of calls: acts with the words that they answered, and the entries that they make.
-use Rattle.std.specs.Prelude.{ℕ, List, [], map}
+use Rattle.std.specs.Prelude.{ℕ, List, []}
 use Rattle.shared_words.specs.Events.{Event}
 use Rattle.shared_words.specs.declared.act.Act.{Act}
 use Rattle.history.specs.declared.entry.Entry.{Entry}
@@ -14,9 +14,6 @@ pub record CallEvent : Type 0 where
 pub record Step : Type 0 where
   pub act : Act
   pub made : List Entry
-
-abbrev pub steps_in : List CallEvent → List Step
-steps_in events = map (λ e. record { act = e.act; made = e.made }) events
 
 -- an event, and a step, without entries
 abbrev pub plain : Act → ℕ → CallEvent

@@ -22,7 +22,8 @@ pub enum Entry {
         from: Gpi,
         to: Gpi,
     },
-    /// The change is complete: no access sees the former GPI from here on.
+    /// The change is complete: until the next one of the granule no access is decided by the former
+    /// GPI.
     Settled {
         caller: u32,
         call: u32,

@@ -28,7 +28,8 @@ use walk_cache::{Walk, WalkCache};
 pub enum Phase {
     /// It sets the duty word.
     Starting,
-    /// A kept walk covers the address. It loads the generation that the walk has as its tag.
+    /// A kept walk covers the address. It loads the generation of the walk's tag size, to see whether
+    /// it is the walk's tag still.
     Trying,
     /// It loads the generation of this size.
     Loading(Size),

@@ -1,6 +1,6 @@
 //! The ring of a processor's last walks of the granule protection tables, in the place of the walks
 //! that a TLB has cached (DDI 0487, granule protection checks). Each walk has as its tag the
-//! generation that it was made under, so that one from before a change can be told. Only
+//! generation that it was made under, which shows whether it is from before a change. Only
 //! `WalkCache::new` takes memory.
 #![tactic(auto)]
 

@@ -1,4 +1,4 @@
--- What a transition that is done leaves behind.
+-- At `done` nothing is left of a granule's former space.
 use Rattle.std.proofs.Common.{◌≡◌, ◌⊎◌, ℕ, ◌∷◌, [], Bool, true, false, ◌&&◌, Option, Some, None, length, refl, sym, ap, ◌∙◌, subst, inl, inr, if◌then◌else◌}
 use Rattle.std.specs.Prelude.{slice_get, nat_lt}
 use Rattle.std.specs.List.{list_any}
@@ -25,7 +25,7 @@ use Rattle.shared_words.specs.Acts.{answer_of}
 use Rattle.core_machine.specs.InnerAgentCaller.{is_lock_of, uncleaned_at}
 use Rattle.core_machine.specs.InnerCpuCaller.{Decision}
 use Rattle.core_machine.specs.InnerCallers.{caller_took, decided_by, made_by, uncleaned_by, unpassed_by, unraised_by}
-use Rattle.core_machine.specs.InnerSettled.{IsQuiet, DoneIsQuiet, QuietIsSettled, QuietStays}
+use Rattle.core_machine.specs.InnerNothingLeft.{IsCleaned, DoneIsCleaned, CleanedHasNothingLeft, CleanedStays}
 use Rattle.core_machine.specs.InnerWalks.{In}
 use Rattle.core_machine.proofs.AddressLemmas.{lock_of, task_lock}
 use Rattle.core_machine.proofs.CallerLemmas.{agent_has, held_once, made_at_place}
@@ -33,7 +33,7 @@ use Rattle.core_machine.proofs.ListLemmas.{get_set}
 use Rattle.core_machine.proofs.ListsLemmas.{unpassed_in_uncleaned, unraised_in_unpassed}
 use Rattle.core_machine.proofs.WalkLemmas.{one_pair}
 
--- ---- a quiet granule is settled
+-- ---- a granule that is cleaned has nothing left
 
 unraised_uncleaned : (y : Size) (x : Caller) (k : ℕ) (v : Gpi) → In {A = ℕ × Gpi} (k, v) (unraised_by y x) → In {A = ℕ × Gpi} (k, v) (uncleaned_by x)
 unraised_uncleaned y (caller.Agent a) k v has =
@@ -44,13 +44,13 @@ unpassed_uncleaned : (p : ℕ) (x : Caller) (k : ℕ) (v : Gpi) → In {A = ℕ 
 unpassed_uncleaned p (caller.Agent a) k v has = unpassed_in_uncleaned a.geometry p a.stage (task_of a) k v has
 unpassed_uncleaned p (caller.Cpu q) k v has = absurd has
 
-decided_here : (g : GeometryData) (s : Scene) (c granule : ℕ) (x : Caller) (d : Decision) → HoldsIn g s → IsQuiet s granule → slice_get s.callers c ≡ Some x → In d (decided_by x) → d.granule ≡ granule → d.gpi ≡ map_in s granule
-decided_here g s c granule (caller.Agent a) d stands quiet at has here = absurd has
-decided_here g s c granule (caller.Cpu q) d stands quiet at has here =
+decided_here : (g : GeometryData) (s : Scene) (c granule : ℕ) (x : Caller) (d : Decision) → HoldsIn g s → IsCleaned s granule → slice_get s.callers c ≡ Some x → In d (decided_by x) → d.granule ≡ granule → d.gpi ≡ map_in s granule
+decided_here g s c granule (caller.Agent a) d stands cleaned at has here = absurd has
+decided_here g s c granule (caller.Cpu q) d stands cleaned at has here =
     elim (stands.decisions c q.number (caller.Cpu q) d at refl has) [
       | inl by_map ↦ sym by_map.0 ∙ ap (map_in s) here
       | inr some ↦
-          absurd (quiet d.gpi (record {
+          absurd (cleaned d.gpi (record {
             number = some.number;
             caller = some.caller;
             at = some.at;
@@ -58,23 +58,23 @@ decided_here g s c granule (caller.Cpu q) d stands quiet at has here =
           }))
     ]
 
-pub quiet_settled : QuietIsSettled
-quiet_settled g s granule stands quiet = record {
+pub cleaned_has_nothing_left : CleanedHasNothingLeft
+cleaned_has_nothing_left g s granule stands cleaned = record {
   walks = λ c pa x w at has tag covered here.
       let now = (stands.walks c x at w has).says tag pa covered in
       now.gives ∙ elim now.known [
         | inl by_map ↦ ap Some (sym by_map ∙ ap (map_in s) here)
         | inr some ↦
-            absurd (quiet now.gpi (record {
+            absurd (cleaned now.gpi (record {
               number = some.number;
               caller = some.caller;
               at = some.at;
               has = subst (λ (k : ℕ). In {A = ℕ × Gpi} (k, now.gpi) (uncleaned_by some.caller)) here (unraised_uncleaned _ some.caller (granule_number g.setup pa) now.gpi some.has);
             }))
       ];
-  decisions = λ c x d at has here. decided_here g s c granule x d stands quiet at has here;
+  decisions = λ c x d at has here. decided_here g s c granule x d stands cleaned at has here;
   lines = λ sp resident.
-      elim (stands.lines granule sp resident) [ inl by_map ↦ by_map.0 | inr former ↦ absurd (quiet former.0 former.2) ];
+      elim (stands.lines granule sp resident) [ inl by_map ↦ by_map.0 | inr former ↦ absurd (cleaned former.0 former.2) ];
 }
 
 -- ---- where a transition is done
@@ -91,8 +91,8 @@ uncleaned_holds g (caller.Agent a) granule v made has =
     subst (λ (k : GeometryData). holds (lock_of k.setup granule) (caller.Agent a) ≡ true) made.0 (uncleaned_in a.geometry a.stage (task_of a) granule v made.1.acts has)
 uncleaned_holds g (caller.Cpu q) granule v made has = absurd has
 
-pub done_quiet : DoneIsQuiet
-done_quiet g s c a t k stands at done under_way former some =
+pub done_is_cleaned : DoneIsCleaned
+done_is_cleaned g s c a t k stands at done under_way former some =
     let made = made_at_place g s c (caller.Agent a) stands at in
     let acts : idle_answer a.geometry t ≡ None = subst (HasActs a.geometry) under_way made.1.acts in
     let own : holds (lock_of g.setup (granule_of_task g t)) (caller.Agent a) ≡ true =
@@ -108,7 +108,7 @@ done_quiet g s c a t k stands at done under_way former some =
           (uncleaned_holds g some.caller (granule_of_task g t) former (made_at_place g s some.number some.caller stands some.at) some.has)
     ]
 
--- ---- it stays quiet
+-- ---- it stays cleaned
 
 -- the lists of the stages that follow an act
 none_merging : (g : GeometryData) (o : Option Act) (f : FuseData) (k : Generations) (u : Option Task) → uncleaned_at g (merging_stage o f k) u ≡ []
@@ -139,7 +139,7 @@ none_if g false x y u first second = second
 none_split : (g : GeometryData) (t : Task) (z : Size) (d : SplittingData) (k : Generations) (u : Option Task) → uncleaned_at g (split_stage t z d k) u ≡ []
 none_split g t z d k u = none_if g (nat_lt d.made d.words) (stage.Splitting z d k) _ u refl (none_first g t (record { word = granules_of d.gpi; generations = k }) u)
 
--- behind a barrier it is what it was, or nothing
+-- after a barrier it is what it was, or nothing
 passed_had : (g : GeometryData) (t : Task) (ch : Change) (k : Kept) (n : ℕ) (v : Gpi) → In {A = ℕ × Gpi} (n, v) (uncleaned_at g (passed_stage g t ch k) (Some t)) → In {A = ℕ × Gpi} (n, v) ((granule_of_task g t, from_of t ch) ∷ [])
 passed_had g (task.Undelegate pa source) change.Last k n v has = absurd (subst (In {A = ℕ × Gpi} (n, v)) (none_merging g _ _ k.generations (Some (task.Undelegate pa source))) has)
 passed_had g (task.Undelegate pa source) change.First k n v has = has
@@ -201,14 +201,14 @@ caller_had : (x : Caller) (c old n : ℕ) (v : Gpi) → In {A = ℕ × Gpi} (n, 
 caller_had (caller.Agent a) c old n v has = agent_had a c old n v (task_of a) refl has
 caller_had (caller.Cpu q) c old n v has = absurd has
 
-pub quiet_stays : QuietStays
-quiet_stays s c granule x t at next unchanged quiet former some =
+pub cleaned_stays : CleanedStays
+cleaned_stays s c granule x t at next unchanged cleaned former some =
     elim (get_set s.callers c some.number (caller_took x (answer_of t s.words)) some.caller some.at) [
       | inl here ↦
           elim (caller_had x c (answer_of t s.words) granule former (subst (λ (y : Caller). In {A = ℕ × Gpi} (granule, former) (uncleaned_by y)) (sym here.1) some.has)) [
-            | inl had ↦ quiet former (record { number = c; caller = x; at = at; has = had })
+            | inl had ↦ cleaned former (record { number = c; caller = x; at = at; has = had })
             | inr changed ↦ absurd (let both : true ≡ false = sym changed ∙ unchanged in cc)
           ]
       | inr other ↦
-          quiet former (record { number = some.number; caller = some.caller; at = other.1; has = some.has })
+          cleaned former (record { number = some.number; caller = some.caller; at = other.1; has = some.has })
     ]

@@ -1,4 +1,4 @@
--- What a transition that is done leaves behind: nothing of its granule's former space.
+-- When a transition is done, nothing is left of its granule's former space.
 use Rattle.std.specs.Prelude.{◌≡◌, ℕ, true, false, slice_get, Some}
 use Rattle.std.specs.List.{list_any}
 use Rattle.gpi_values.specs.declared.gpi.Gpi.{Gpi}
@@ -29,7 +29,7 @@ use Rattle.core_machine.specs.InnerWalks.{In, SomeHas, walk_generation}
 
 -- Of a granule, no kept walk that could still hit gives it another GPI than the map's, no access
 -- under way was decided by another, and no line that the map denies is resident.
-pub record IsSettled (g : GeometryData) (s : Scene) (granule : ℕ) : Type 0 where
+pub record HasNothingLeft (g : GeometryData) (s : Scene) (granule : ℕ) : Type 0 where
   pub walks : (c pa : ℕ) (caller : Caller) (w : Walk) → slice_get s.callers c ≡ Some caller
       → In w (walks_by caller) → w.tag ≡ walk_generation g s.words w → covers w pa ≡ true
       → granule_number g.setup pa ≡ granule
@@ -40,29 +40,29 @@ pub record IsSettled (g : GeometryData) (s : Scene) (granule : ℕ) : Type 0 whe
       → permits_of (map_in s granule) space ≡ true
 
 -- no caller has changed it and not cleaned it yet
-abbrev pub IsQuiet : Scene → ℕ → Type 0
-IsQuiet s granule = (former : Gpi) → SomeHas s.callers uncleaned_by (granule, former) → ⊥
+abbrev pub IsCleaned : Scene → ℕ → Type 0
+IsCleaned s granule = (former : Gpi) → SomeHas s.callers uncleaned_by (granule, former) → ⊥
 
--- where a transition is about to answer that it is done, its granule is quiet
-abbrev pub DoneIsQuiet : Type 0
-DoneIsQuiet =
+-- where a transition is about to answer that it is done, its granule is cleaned
+abbrev pub DoneIsCleaned : Type 0
+DoneIsCleaned =
     (g : GeometryData) (s : Scene) (c : ℕ) (a : AgentData) (t : Task) (k : Generations)
     → HoldsIn g s → slice_get s.callers c ≡ Some (caller.Agent a)
     → a.stage ≡ stage.Releasing (answer.Done k) → task_of a ≡ Some t
-    → IsQuiet s (granule_of_task g t)
+    → IsCleaned s (granule_of_task g t)
 
--- a granule that is quiet is settled
-abbrev pub QuietIsSettled : Type 0
-QuietIsSettled =
-    (g : GeometryData) (s : Scene) (granule : ℕ) → HoldsIn g s → IsQuiet s granule
-    → IsSettled g s granule
+-- a granule that is cleaned has nothing left
+abbrev pub CleanedHasNothingLeft : Type 0
+CleanedHasNothingLeft =
+    (g : GeometryData) (s : Scene) (granule : ℕ) → HoldsIn g s → IsCleaned s granule
+    → HasNothingLeft g s granule
 
--- and stays quiet at each act, of whomever, that doesn't change it
-abbrev pub QuietStays : Type 0
-QuietStays =
+-- and stays cleaned at each act, of whomever, that doesn't change it
+abbrev pub CleanedStays : Type 0
+CleanedStays =
     (s : Scene) (c granule : ℕ) (x : Caller) (t : Act) → slice_get s.callers c ≡ Some x
     → caller_next x ≡ Some t
     → list_any (changes_granule granule) (made_by c x (answer_of t s.words)) ≡ false
-    → IsQuiet s granule
-    → IsQuiet (scene_after s c (caller_took x (answer_of t s.words)) (after_act t s.words)
+    → IsCleaned s granule
+    → IsCleaned (scene_after s c (caller_took x (answer_of t s.words)) (after_act t s.words)
     (made_by c x (answer_of t s.words))) granule
