@@ -8,7 +8,7 @@ ghost use Rattle.history.specs.Stamps.{walked};
 ghost use Rattle.processor.specs.Accesses.{walk_of, walk_gpi, table_access};
 ghost use Rattle.processor.specs.InnerProgress.{stage_of, no_generations, act_at, next_in, old_in};
 ghost use Rattle.processor.specs.InnerProgress.{after_search, after_try, after_load, after_word};
-ghost use Rattle.processor.specs.InnerProgress.{decided_stage, after_decision, after_at, ring_after};
+ghost use Rattle.processor.specs.InnerProgress.{decided_stage, after_at, ring_after};
 ghost use Rattle.processor.specs.InnerProgress.{answer_at, is_last};
 ghost use Rattle.processor.specs.InnerProgress as stage;
 ghost use Rattle.processor.specs.InnerCpus.{IsReadable, IsAccessAt};
