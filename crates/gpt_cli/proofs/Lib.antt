@@ -1,3 +1,4 @@
 pub mod AcceptedLemmas
 pub mod PreparingLemmas
 pub mod ReplyLemmas
+pub mod RequestLemmas

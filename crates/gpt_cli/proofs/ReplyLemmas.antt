@@ -8,17 +8,21 @@ use Rattle.region_plan.specs.Refusals.{refusal}
 use Rattle.scenario_text.specs.declared.scenario.Scenario.{Scenario}
 use Rattle.table_build.specs.Built.{is_bad_base}
 use Rattle.history.specs.declared.outcome.Outcome.{Outcome}
-use Rattle.core_machine.specs.InnerPlay.{played, outcome_of}
+use Rattle.core_machine.specs.Run.{IsRun}
+use Rattle.core_machine.specs.InnerPlay.{played, outcome_of, played_trace}
+use Rattle.load_scenario.specs.Load.{load_of}
 use Rattle.core_machine.specs.Scenarios.{IsAccepted}
 use Rattle.gpt_cli.specs.declared.command.Command.{Command}
 use Rattle.gpt_cli.specs.declared.command.Command.TheVariants as command
+use Rattle.gpt_cli.specs.declared.command.Request.{Request}
+use Rattle.gpt_cli.specs.declared.command.Request.TheVariants as request
 use Rattle.gpt_cli.specs.declared.refusal.Refusal.{Refusal}
 use Rattle.gpt_cli.specs.declared.refusal.Refusal.TheVariants as cause
 use Rattle.gpt_cli.specs.declared.reply.Reply.{Reply}
 use Rattle.gpt_cli.specs.Statuses.{code_of}
 use Rattle.gpt_cli.specs.Texts.{plan_text, base_text}
 use Rattle.gpt_cli.specs.Upheld.{Upholds}
-use Rattle.gpt_cli.specs.Replies.{refused, has_left, played_reply, accepted_reply, reply_of, Replies}
+use Rattle.gpt_cli.specs.Replies.{refused, has_left, run_status, played_reply, accepted_reply, reply_of, Replies, loaded_reply, RepliesToLoad}
 use Rattle.gpt_cli.specs.InnerPreparing.{HasScenario, Refuses, refusal_line}
 
 -- the reply to a text that has a scenario
@@ -84,7 +88,7 @@ low_told code low = ((λ e. absurd (omega (arith, e, low))), (λ e. absurd (omeg
 six_told : IsTold 6
 six_told = ((λ e. absurd (omega (arith, e))), (λ e. absurd (omega (arith, e))))
 
-played_status : (s : Scenario) (o : Outcome) → IsTold (code_of (played_reply s o).status)
+pub played_status : (s : Scenario) (o : Outcome) → IsTold (code_of (run_status s o))
 played_status s o =
     elim (cases_Bool (has_left s.scripts o.answers)) [
       | inl left ↦ rw left six_told
@@ -105,7 +109,22 @@ refused_status line (Ok reply) is = subst (λ (r : Reply). IsTold (code_of r.sta
 refused_status line (Err e) is = tt
 
 -- words are one command alone
-pub replies_same : (words : Option Command) (a b : Command) (bytes : List ℕ) (reply : Reply) → words ≡ Some a → words ≡ Some b → Replies a bytes reply → Replies b bytes reply
+pub replies_same : (words : Option Request) (a b : Command) (bytes : List ℕ) (reply : Reply) → words ≡ Some (request.Read a) → words ≡ Some (request.Read b)
+    → Replies a bytes reply → Replies b bytes reply
 replies_same words a b bytes reply first second replied =
     let same : a ≡ b = cc in
     subst (λ (k : Command). Replies k bytes reply) same replied
+
+-- ---- loads
+
+pub loaded_replies : (number : ℕ) (s : Scenario) (o : Outcome) (reply : Reply) → s ≡ load_of number → o ≡ outcome_of (played s) → reply ≡ loaded_reply number s o → IsAccepted s
+    → IsRun s o (played_trace s) → RepliesToLoad number reply
+loaded_replies number s o reply made left replied accepted run =
+    subst (λ (t : Scenario). (reply ≡ loaded_reply number t (outcome_of (played t))) × (IsAccepted t × IsRun t (outcome_of (played t)) (played_trace t))) made
+    (subst (λ (x : Outcome). (reply ≡ loaded_reply number s x) × (IsAccepted s × IsRun s x (played_trace s))) left (replied, (accepted, run)))
+
+-- words are one load alone
+pub load_same : (words : Option Request) (a b : ℕ) (reply : Reply) → words ≡ Some (request.Load a) → words ≡ Some (request.Load b) → RepliesToLoad a reply → RepliesToLoad b reply
+load_same words a b reply first second replied =
+    let same : a ≡ b = cc in
+    subst (λ (n : ℕ). RepliesToLoad n reply) same replied

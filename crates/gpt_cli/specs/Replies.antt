@@ -11,6 +11,8 @@ use Rattle.table_build.specs.Built.{tables_of, is_bad_base}
 use Rattle.report_text.specs.TablesText.{report_of_tables}
 use Rattle.report_text.specs.declared.run.Mode.TheVariants as mode
 use Rattle.report_text.specs.RunText.{report_of_run}
+use Rattle.report_text.specs.LoadText.{report_of_load}
+use Rattle.load_scenario.specs.Load.{load_of}
 use Rattle.history.specs.declared.call.Answer.{Answer}
 use Rattle.history.specs.declared.outcome.Outcome.{Outcome}
 use Rattle.core_machine.specs.InnerPlay.{played, outcome_of}
@@ -18,8 +20,9 @@ use Rattle.gpt_stream.specs.declared.input.TheConstants.{INPUT_LIMIT}
 use Rattle.gpt_cli.specs.declared.command.Command.{Command}
 use Rattle.gpt_cli.specs.declared.command.Command.TheVariants as command
 use Rattle.gpt_cli.specs.declared.reply.Reply.{Reply}
+use Rattle.gpt_cli.specs.declared.status.Status.{Status}
 use Rattle.gpt_cli.specs.declared.status.Status.TheVariants as status
-use Rattle.gpt_cli.specs.Upheld.{Upholds}
+use Rattle.gpt_cli.specs.Upheld.{Upholds, UpholdsLoad}
 use Rattle.gpt_cli.specs.Texts.{usage_text, too_long_text, line_text, plan_text, base_text}
 
 abbrev pub done : List ℕ → Reply
@@ -40,12 +43,13 @@ has_left (s ∷ scripts) [] = nat_lt 0 (calls_of s) || has_left scripts []
 has_left (s ∷ scripts) (own ∷ answers) =
     nat_lt (length own) (calls_of s) || has_left scripts answers
 
--- The report of what a run left, with status `Left` exactly where a call has no answer.
+-- the status of what a run left: `Left` exactly where a call has no answer
+abbrev pub run_status : Scenario → Outcome → Status
+run_status s o = if has_left s.scripts o.answers then status.Left else status.Done
+
+-- the report of what a run left
 abbrev pub played_reply : Scenario → Outcome → Reply
-played_reply s o = record {
-  status = if has_left s.scripts o.answers then status.Left else status.Done;
-  text = report_of_run mode.Play s o;
-}
+played_reply s o = record { status = run_status s o; text = report_of_run mode.Play s o }
 
 -- ---- the reply to a scenario
 
@@ -89,3 +93,14 @@ abbrev pub Replies : Command → List ℕ → Reply → Type 0
 Replies command bytes reply =
     MatchBool (nat_lt INPUT_LIMIT (length bytes)) (reply ≡ refused too_long_text)
     (RepliesToText command bytes reply)
+
+-- ---- the reply to a load
+
+-- The summary of what the turns of the scenario of this number leave.
+abbrev pub loaded_reply : ℕ → Scenario → Outcome → Reply
+loaded_reply number s o = record { status = run_status s o; text = report_of_load number s o }
+
+abbrev pub RepliesToLoad : ℕ → Reply → Type 0
+RepliesToLoad number reply =
+    (reply ≡ loaded_reply number (load_of number) (outcome_of (played (load_of number))))
+    × UpholdsLoad number

@@ -1,6 +1,7 @@
 -- How a run ends: its status, and what the sink holds.
-use Rattle.std.specs.Prelude.{◌≡◌, ℕ, ◌<◌, ◌⊎◌, List, [], ◌∷◌, length, take, Option, codes}
+use Rattle.std.specs.Prelude.{◌≡◌, ℕ, ◌<◌, ◌^◌, ◌⊎◌, List, [], ◌∷◌, length, take, Option, codes}
 use Rattle.std.specs.Io.KnownBytes.{Appends}
+use Rattle.line_text.specs.Lines.{count}
 use Rattle.gpt_io.specs.Counts.{Rose}
 use Rattle.gpt_cli.specs.declared.command.Command.{Command}
 use Rattle.gpt_cli.specs.declared.command.Command.TheVariants as command
@@ -8,13 +9,22 @@ use Rattle.gpt_cli.specs.declared.reply.Reply.{Reply}
 use Rattle.gpt_cli.specs.declared.status.Status.TheVariants as status
 use Rattle.gpt_cli.specs.Statuses.{code_of}
 
--- the words that are a command
+-- the words that are a command which reads a scenario
 abbrev pub IsCommandOf : List (List ℕ) → Command → Type 0
 IsCommandOf words command.Tables = words ≡ codes "tables" ∷ []
 IsCommandOf words command.Play = words ≡ codes "play" ∷ []
 
+-- they are one that reads a scenario
 abbrev pub IsCommand : List (List ℕ) → Type 0
 IsCommand words = (command : Command) × IsCommandOf words command
+
+-- they are the load of this number, at most 4294967295, spelled as a count
+abbrev pub IsLoadOf : List (List ℕ) → ℕ → Type 0
+IsLoadOf words number = (words ≡ codes "load" ∷ count number ∷ []) × (number < 2 ^ 32)
+
+-- they are a load
+abbrev pub IsLoad : List (List ℕ) → Type 0
+IsLoad words = (number : ℕ) × IsLoadOf words number
 
 -- The reply was written whole, or a write failed, the exit status says so and a proper prefix of
 -- the text was written.

@@ -1,7 +1,7 @@
 ghost use Rattle.std.specs.Prelude.{◌≡◌, IfOk, length};
 ghost use Rattle.report_text.specs.RunText.{FitsScenario};
 ghost use Rattle.gpt_cli.specs.Upheld.{Upholds};
-ghost use Rattle.gpt_cli.specs.Replies.{has_left, played_reply, accepted_reply};
+ghost use Rattle.gpt_cli.specs.Replies.{has_left, run_status, played_reply, accepted_reply};
 ghost use Rattle.gpt_cli.specs.InnerPreparing.{IsPrepared};
 ghost use Rattle.gpt_cli.specs.declared.command.Command.TheVariants as the_command;
 
@@ -42,6 +42,18 @@ fn has_left(scripts: &[Script], answers: &[Listed<Answer>]) -> bool
     false
 }
 
+/// The status of what a run left.
+pub fn run_status(scenario: &Scenario, outcome: &Outcome) -> Status
+    requires { FitsScenario scenario.now outcome.now }
+    ensures { result ≡ run_status scenario.now outcome.now }
+{
+    if has_left(scenario.scripts.as_slice(), outcome.answers.as_slice()) {
+        Status::Left
+    } else {
+        Status::Done
+    }
+}
+
 /// The report of what a run left.
 fn reply_of_outcome(
     alloc: Global,
@@ -51,9 +63,8 @@ fn reply_of_outcome(
     requires { FitsScenario scenario.now outcome.now }
     ensures { IfOk result (λ reply. reply ≡ played_reply scenario.now outcome.now) }
 {
-    let left = has_left(scenario.scripts.as_slice(), outcome.answers.as_slice());
     Ok(Reply {
-        status: if left { Status::Left } else { Status::Done },
+        status: run_status(scenario, outcome),
         text: Listed::new(run_report(alloc, Mode::Play, scenario, outcome)?),
     })
 }

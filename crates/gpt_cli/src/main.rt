@@ -1,8 +1,10 @@
-//! The program: reads a scenario from standard input and writes its report to standard output.
+//! The program: reads a scenario from standard input, or makes one from a number, and writes its
+//! report to standard output.
 #![tactic(auto)]
 
 mod accepted;
 mod command;
+mod loaded;
 mod prepare;
 mod program;
 mod refusal;

@@ -2,14 +2,15 @@ ghost use Rattle.std.specs.Prelude.{◌≡◌, ◌≢◌, ℕ, ◌+◌, ◌≤�
 ghost use Rattle.std.specs.Io.KnownBytes.{Keeps, Consumes, IsAtEnd};
 ghost use Rattle.gpt_io.specs.Counts.{Rose};
 ghost use Rattle.gpt_cli.specs.Statuses.{code_of};
-ghost use Rattle.gpt_cli.specs.Replies.{usage, Replies};
-ghost use Rattle.gpt_cli.specs.Runs.{IsCommandOf, IsCommand, Delivers};
+ghost use Rattle.gpt_cli.specs.Replies.{usage, Replies, RepliesToLoad};
+ghost use Rattle.gpt_cli.specs.Runs.{IsCommandOf, IsCommand, IsLoadOf, IsLoad, Delivers};
 ghost use Rattle.gpt_cli.specs.declared.command.Command.{Command as TheCommand};
 ghost use Rattle.gpt_cli.specs.declared.reply.Reply.{Reply as TheReply};
 ghost use Rattle.gpt_cli.specs.declared.status.Status.TheVariants as status;
 
 use crate::accepted::reply_to_prepared;
-use crate::command::{Command, command_of};
+use crate::command::{Command, Request, request_of};
+use crate::loaded::reply_to_load;
 use crate::prepare::prepare;
 use crate::refusal::refusal_text;
 use crate::reply::Reply;
@@ -48,15 +49,23 @@ fn send<K: Sink>(sink: &mut K, status: Status, text: &[u8]) -> Status
 /// All that the program does: reads an input, and writes its reply. It waits for nobody and always
 /// returns. The answer is the code of a `Status`, which says what was written.
 pub fn still<S: Source, K: Sink>(alloc: Global, words: &[&str], source: &mut S, sink: &mut K) -> u8
-    // Words that are no command read nothing.
+    // Words that are no command, and a load, read nothing.
     ensures usage { ¬ IsCommand (map (λ word. word.now) words.now)
+        → ¬ IsLoad (map (λ word. word.now) words.now)
         → Delivers (K.held sink.old) (K.held sink.new)
         (K.faults sink.old) (K.faults sink.new) usage result }
     ensures unread { ¬ IsCommand (map (λ word. word.now) words.now)
         → Keeps (S.left source.old) (S.left source.new)
         × (S.faults source.new ≡ S.faults source.old) }
 
-    // A command replies to the bytes that it takes, which are all that are left or one more than
+    // A load replies by its number alone.
+    ensures load { (number : ℕ) → IsLoadOf (map (λ word. word.now) words.now) number
+        → result ≢ code_of status.NoMemory
+        → (reply : TheReply) × RepliesToLoad number reply
+        × Delivers (K.held sink.old) (K.held sink.new)
+        (K.faults sink.old) (K.faults sink.new) reply result }
+
+    // Any other command replies to the bytes that it takes, which are all that are left or one more than
     // the limit.
     ensures reply { (command : TheCommand)
         → IsCommandOf (map (λ word. word.now) words.now) command
@@ -75,14 +84,23 @@ pub fn still<S: Source, K: Sink>(alloc: Global, words: &[&str], source: &mut S, 
     ensures memory { result ≡ code_of status.NoMemory
         → S.faults source.new ≡ S.faults source.old }
     ensures silent { (result ≡ code_of status.ReadFailed) ⊎ (result ≡ code_of status.NoMemory)
-        → IsCommand (map (λ word. word.now) words.now)
+        → (IsCommand (map (λ word. word.now) words.now) ⊎ IsLoad (map (λ word. word.now) words.now))
         × Keeps (K.held sink.old) (K.held sink.new) × (K.faults sink.new ≡ K.faults sink.old) }
     ensures limit { (bytes : List ℕ) × (length bytes ≤ INPUT_LIMIT + 1)
         × Consumes (S.left source.old) (S.left source.new) bytes }
     ensures limit_number { INPUT_LIMIT ≡ 1048576 }
 {
-    let Some(command) = command_of(words) else {
+    let Some(request) = request_of(words) else {
         return send(sink, Status::Usage, USAGE).code();
+    };
+    let command = match request {
+        Request::Read(command) => command,
+        Request::Load(number) => {
+            return match reply_to_load(alloc, number) {
+                Ok(loaded) => send(sink, loaded.status, loaded.text.as_slice()).code(),
+                Err(AllocError) => Status::NoMemory.code(),
+            };
+        }
     };
     match read_input(alloc, source) {
         Err(InputError::Fault) => Status::ReadFailed.code(),
