@@ -1,5 +1,5 @@
 -- The summary of a load: what its calls were answered, and what its words show, in counts.
-use Rattle.std.specs.Prelude.{ℕ, ◌+◌, ◌-◌, ◌*◌, Bool, true, false, not, List, [], ◌∷◌, ◌++◌, length, count_by, sum_by, codes, Option, Some, None}
+use Rattle.std.specs.Prelude.{ℕ, ◌+◌, ◌-◌, ◌*◌, Bool, true, false, not, List, [], ◌∷◌, ◌++◌, length, count_by, sum_by, codes, Option, Some}
 use Rattle.std.specs.List.{flat_map, range_with_len}
 use Rattle.gpt_descriptors.specs.declared.entry.L1Entry.{L1Entry}
 use Rattle.gpt_descriptors.specs.declared.entry.L1Entry.TheVariants as l1

@@ -1,4 +1,4 @@
-//! Reports: the text of tables and runs.
+//! Reports: the text of tables, runs and loads.
 #![tactic(auto)]
 
 mod answers;

@@ -1,10 +1,9 @@
 ghost use Rattle.std.specs.Prelude.{◌≡◌, IfOk, OnOk, count_by, length};
-ghost use Rattle.std.specs.Prelude.{List};
 ghost use Rattle.gpt_descriptors.specs.Entries.{l1_entry};
 ghost use Rattle.gpt_descriptors.specs.Places.{word_count};
 ghost use Rattle.scenario_text.specs.Calls.{AreAnswersOf};
 ghost use Rattle.report_text.specs.RunText.{FitsScenario};
-ghost use Rattle.report_text.specs.LoadText.{counted_name, is_via, is_counted, count_in, left_in, is_size, is_contiguous, raises_in, count_line, answer_counts, word_counts, report_of_load};
+ghost use Rattle.report_text.specs.LoadText.{counted_name, is_via, is_counted, count_in, left_in, is_contiguous, raises_in, count_line, answer_counts, word_counts, report_of_load};
 ghost use Rattle.report_text.specs.InnerAdding.{Adds};
 
 use crate::callers::call_count;
@@ -95,7 +94,10 @@ fn counts(counted: Counted, answer: &Answer) -> bool
 fn count_own(counted: Counted, answers: &[Answer]) -> usize
     ensures { result ≡ count_by (is_counted counted) answers.now }
 {
-    answers.iter().filter(|answer| counts(counted, answer)).count()
+    answers
+        .iter()
+        .filter(|answer| counts(counted, answer))
+        .count()
 }
 
 /// How many answers of all callers are counted under this name.
@@ -133,13 +135,13 @@ fn is_of_size(size: Size, word: u64) -> bool
 }
 
 /// How many L1 words are contiguous descriptors of this size.
-fn count_of_size(size: Size, words: &[u64]) -> usize
+fn count_of_size(size: Size, words: &[u64]) -> u128
     ensures { result ≡ count_by (λ word. is_contiguous size (l1_entry word)) words.now }
 {
-    words.iter().filter(|word| is_of_size(size, **word)).count()
+    words.iter().filter(|word| is_of_size(size, **word)).count() as u128
 }
 
-/// The sum over the 512 MB generations of what each is above the first one.
+/// The sum over the generations of 512 MB of what each is above the first one.
 fn sum_raises(geometry: &Geometry, words: &[u64]) -> u128
     requires { length words.now ≡ word_count geometry.now }
     ensures { result ≡ raises_in geometry.now words.now }
@@ -172,25 +174,26 @@ fn push_answer_counts(out: &mut String, answers: &[Listed<Answer>]) -> Result<()
     Ok(())
 }
 
-/// Appends the counts of what the shared words show: the contiguous L1 words of each size, and how
-/// often the 512 MB generations rose.
-fn push_word_counts(
-    out: &mut String,
-    geometry: &Geometry,
-    words: &[u64],
-) -> Result<(), AllocError>
+/// Appends the counts of what the shared words show: the contiguous L1 words of each size, and what
+/// the generations of 512 MB are above the first one.
+fn push_word_counts(out: &mut String, geometry: &Geometry, words: &[u64]) -> Result<(), AllocError>
     requires { length words.now ≡ word_count geometry.now }
     ensures { OnOk result (Adds out.old (word_counts geometry.now words.now) out.new) }
 {
     let tables = words_of_tables(geometry, words);
-    push_count(out, "contig2m", count_of_size(Size::Two, tables) as u128)?;
-    push_count(out, "contig32m", count_of_size(Size::ThirtyTwo, tables) as u128)?;
-    push_count(out, "contig512m", count_of_size(Size::FiveTwelve, tables) as u128)?;
+    push_count(out, "contig2m", count_of_size(Size::Two, tables))?;
+    push_count(out, "contig32m", count_of_size(Size::ThirtyTwo, tables))?;
+    push_count(out, "contig512m", count_of_size(Size::FiveTwelve, tables))?;
     push_count(out, "gens", sum_raises(geometry, words))
 }
 
-/// The summary of the load of this number.
-#[tactic(auto, unfolding(crate::specs::LoadText::report_of_load))]
+/// The summary of the load of this number: its outcome in counts, each in decimal on a line of its
+/// own. `done`, `perm`, `worn`, `inval`, `unknown`, `granted` and `fault` are how many answers of
+/// all callers are of that kind; `hit`, `cold` and `missed` how many accesses found their GPI so;
+/// `left` how many calls have no answer; `contig2m`, `contig32m` and `contig512m` how many L1 words
+/// are contiguous descriptors of that size; `gens` the sum over the generations of 512 MB of what
+/// each is above the first one, nothing where it is below. No count wraps. `AllocError` where memory
+/// for the text is exhausted.
 pub fn load_report(
     alloc: Global,
     number: u32,
@@ -204,7 +207,8 @@ pub fn load_report(
     write!(out, "report 1 load {number}\n")?;
     let answers = outcome.answers.as_slice();
     push_answer_counts(&mut out, answers)?;
-    push_count(&mut out, "left", count_left(scenario.scripts.as_slice(), answers))?;
+    let left = count_left(scenario.scripts.as_slice(), answers);
+    push_count(&mut out, "left", left)?;
     push_word_counts(&mut out, &outcome.geometry, outcome.words.as_slice())?;
     out.push_str("end\n")?;
     Ok(out.into_bytes())

@@ -21,8 +21,8 @@ returns c =
     let out4 = string_bytes c.push_word_counts.new.out in
     let out5 = string_bytes c.push_str.new.self in
     let answers = c.as_slice-answers.ensures in
-    let left : c.count_left.result ≡ left_in s.scripts o.answers =
-    c.count_left.ensures ∙ (ap (λ (l : List Script). left_in l c.as_slice-answers.result.now) c.as_slice.ensures ∙ ap (left_in s.scripts) answers) in
+    let left : c.count_left-left.result ≡ left_in s.scripts o.answers =
+    c.count_left-left.ensures ∙ (ap (λ (l : List Script). left_in l c.as_slice-answers.result.now) c.as_slice.ensures ∙ ap (left_in s.scripts) answers) in
     let items : c.into_bytes.result.items ≡ out5 = rw c.into_bytes.ensures.value refl in
     items
     ∙ five head (answer_counts o.answers) (count_line (codes "left") (left_in s.scripts o.answers)) (word_counts o.geometry o.words) end_line
