@@ -3,3 +3,4 @@ pub mod TextLemmas
 pub mod AnswerLemmas
 pub mod CallerLemmas
 pub mod StateLemmas
+pub mod LoadLemmas

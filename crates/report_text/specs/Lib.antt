@@ -3,3 +3,4 @@ pub mod TablesText
 pub mod RunText
 pub mod RunParts
 pub mod InnerAdding
+pub mod LoadText

@@ -42,7 +42,7 @@ fn push_locks(out: &mut String, words: &[u64], locks: u64) -> Result<(), AllocEr
 }
 
 /// The words of the L1 tables, which stand before as many line words.
-fn words_of_tables<'a>(geometry: &Geometry, words: &'a [u64]) -> &'a [u64]
+pub fn words_of_tables<'a>(geometry: &Geometry, words: &'a [u64]) -> &'a [u64]
     requires { length words.now ≡ word_count geometry.now }
     ensures value { result.now ≡ table_part geometry.now words.now }
     ensures length { length result.now ≡ geometry.now.l1_tables * table_words geometry.now.setup }
@@ -65,7 +65,7 @@ fn push_table_part(out: &mut String, geometry: &Geometry, words: &[u64]) -> Resu
 }
 
 /// The place of the first generation of this size, and how many there are.
-fn generations_of(geometry: &Geometry, size: Size) -> (u64, u64)
+pub fn generations_of(geometry: &Geometry, size: Size) -> (u64, u64)
     ensures start { result.0 ≡ place_of geometry.now (Generation size 0) }
     ensures count { result.1 ≡ blocks_in_region size * geometry.now.setup.gigabytes }
     ensures small { (result.0 ≤ 40000) × (result.1 ≤ 40000) }

@@ -212,7 +212,7 @@ fn agent_answers(alloc: Global) -> Result<Listed<Answer>, Fail> {
     ]?))
 }
 
-fn seen(allowed: bool, gpi: Gpi, level: u8, via: Via) -> Answer {
+pub fn seen(allowed: bool, gpi: Gpi, level: u8, via: Via) -> Answer {
     Answer::Seen(Access {
         allowed,
         gpi,
@@ -264,7 +264,7 @@ fn words_with(alloc: Global, length: usize, changed: &[(usize, u64)]) -> Result<
 }
 
 /// Whether this is an outcome of a scenario of two callers.
-fn fits(scenario: &Scenario, outcome: &Outcome) -> bool
+pub fn fits(scenario: &Scenario, outcome: &Outcome) -> bool
     ensures { result ≡ true → FitsScenario scenario.now outcome.now }
 {
     let [agent, cpu] = scenario.scripts.as_slice() else {
