@@ -149,13 +149,18 @@ fn a_full_sink_cuts_the_text_at_its_room(rt: HostRuntime) -> Result<(), Fail> {
 #[test]
 fn words_that_are_no_command_read_nothing(rt: HostRuntime) -> Result<(), Fail> {
     let alloc = rt.alloc();
-    let table: [&[&str]; 6] = [
+    let table: [&[&str]; 11] = [
         &[],
         &["table"],
         &["tables", "tables"],
         &["play", "0"],
         &["race"],
+        &["load"],
         &["load", "01"],
+        &["load", ""],
+        &["load", "-1"],
+        &["load", "4294967296"],
+        &["load", "0", "0"],
     ];
     for words in table {
         let mut source = source(alloc, SCENARIO, 1)?;
@@ -165,6 +170,34 @@ fn words_that_are_no_command_read_nothing(rt: HostRuntime) -> Result<(), Fail> {
         assert_eq!(rt; whole.taken(), USAGE);
         assert_eq!(rt; status(alloc, words, &mut source, &mut failing), 4);
         assert!(rt; failing.taken().is_empty());
+        assert_eq!(rt; source.reads(), 0);
+    }
+    Ok(())
+}
+
+#[test]
+fn a_load_reads_nothing_and_replies_by_its_number(rt: HostRuntime) -> Result<(), Fail> {
+    let alloc = rt.alloc();
+    let table = [
+        ("0", "report 1 load 0\ndone 51\nperm 49\nworn 0\n"),
+        (
+            "4294967295",
+            "report 1 load 4294967295\ndone 42\nperm 58\nworn 0\n",
+        ),
+    ];
+    for (number, first) in table {
+        let words = ["load", number];
+        let mut source = source(alloc, SCENARIO, 1)?;
+        let mut once = sink(alloc, 300, 0)?;
+        assert_eq!(rt; status(alloc, &words, &mut source, &mut once), 0);
+        assert!(rt; once.taken().starts_with(first.as_bytes()), "of {number}");
+        assert!(rt; once.taken().ends_with(b"\nend\n"), "of {number}");
+        let mut again = sink(alloc, 300, 0)?;
+        assert_eq!(rt; status(alloc, &words, &mut source, &mut again), 0);
+        assert_eq!(rt; again.taken(), once.taken());
+        let mut failing = sink(alloc, 300, 2)?;
+        assert_eq!(rt; status(alloc, &words, &mut source, &mut failing), 4);
+        assert_eq!(rt; failing.taken(), b"report 1 l");
         assert_eq!(rt; source.reads(), 0);
     }
     Ok(())
