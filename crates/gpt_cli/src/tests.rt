@@ -197,7 +197,7 @@ fn a_load_reads_nothing_and_replies_by_its_number(rt: HostRuntime) -> Result<(),
         assert_eq!(rt; again.taken(), once.taken());
         let mut failing = sink(alloc, 300, 2)?;
         assert_eq!(rt; status(alloc, &words, &mut source, &mut failing), 4);
-        assert_eq!(rt; failing.taken(), b"report 1 l");
+        assert_eq!(rt; failing.taken(), b"report 1 l".as_slice());
         assert_eq!(rt; source.reads(), 0);
     }
     Ok(())
