@@ -1,7 +1,6 @@
-//! The scenario of a number: a load of many delegations and accesses for the machine and for what
-//! times it. The callers, their calls and the turns are always of one size; the addresses, the
-//! kinds of call and the spaces are drawn from the number, and the same number always gives the
-//! same scenario.
+//! The scenario of a number: many delegations and accesses by six callers, to load the machine
+//! with. The addresses, the kinds of call and the spaces are drawn from the number, and all else is
+//! the same in each, so that one number always gives one scenario.
 #![tactic(auto)]
 
 mod calls;

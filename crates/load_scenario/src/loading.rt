@@ -2,7 +2,7 @@ ghost use Rattle.std.specs.Prelude.{◌≡◌, IfOk, None, false};
 ghost use Rattle.scenario_text.specs.Spelling.{WellFormed};
 ghost use Rattle.region_plan.specs.Refusals.{refusal};
 ghost use Rattle.table_build.specs.Built.{is_bad_base};
-ghost use Rattle.load_scenario.specs.Load.{load_setup, load_regions, load_scripts, load_of};
+ghost use Rattle.load_scenario.specs.Load.{load_setup, load_regions, load_scripts, load_schedule, load_of};
 
 use crate::calls::{agent, cpu};
 use crate::draws::Generator;
@@ -35,21 +35,36 @@ fn load_setup() -> Setup
     }
 }
 
+/// The regions of each of these scenarios.
+fn load_regions(alloc: Global) -> Result<Listed<Region>, AllocError>
+    ensures { IfOk result (λ regions. regions ≡ load_regions) }
+{
+    Ok(Listed::new(vec![in alloc; ALL_GRANULES]?))
+}
+
 /// The scripts of a number: two agents, then four processors.
-fn load_scripts(alloc: Global, number: u32) -> Result<Vec<Script>, AllocError>
-    ensures { IfOk result (λ scripts. scripts.items ≡ load_scripts number) }
+fn load_scripts(alloc: Global, number: u32) -> Result<Listed<Script>, AllocError>
+    ensures { IfOk result (λ scripts. scripts ≡ load_scripts number) }
 {
     let mut generator = Generator {
         value: u64::from(number),
     };
-    Ok(vec![in alloc;
+    let scripts = vec![in alloc;
         agent(alloc, &mut generator, Source::Realm)?,
         agent(alloc, &mut generator, Source::Secure)?,
         cpu(alloc, &mut generator)?,
         cpu(alloc, &mut generator)?,
         cpu(alloc, &mut generator)?,
         cpu(alloc, &mut generator)?,
-    ]?)
+    ]?;
+    Ok(Listed::new(scripts))
+}
+
+/// The schedule of each of these scenarios.
+fn load_schedule(alloc: Global) -> Result<Listed<Slot>, AllocError>
+    ensures { IfOk result (λ schedule. schedule ≡ load_schedule) }
+{
+    Ok(Listed::new(vec![in alloc; Slot::Round(TURNS, ROUNDS)]?))
 }
 
 /// The scenario of a number, 0 to 4,294,967,295: one Realm and one Secure agent with 50 calls each,
@@ -67,13 +82,10 @@ pub fn load_scenario(alloc: Global, number: u32) -> Result<Scenario, AllocError>
     ensures based { IfOk result
         (λ scenario. is_bad_base scenario.setup scenario.regions ≡ false) }
 {
-    let scripts = load_scripts(alloc, number)?;
-    let regions = vec![in alloc; ALL_GRANULES]?;
-    let schedule = vec![in alloc; Slot::Round(TURNS, ROUNDS)]?;
     Ok(Scenario {
         setup: load_setup(),
-        regions: Listed::new(regions),
-        scripts: Listed::new(scripts),
-        schedule: Listed::new(schedule),
+        regions: load_regions(alloc)?,
+        scripts: load_scripts(alloc, number)?,
+        schedule: load_schedule(alloc)?,
     })
 }

@@ -1,10 +1,9 @@
-use Rattle.std.proofs.Common.{◌∙◌}
 use Rattle.load_scenario.proofs.FormLemmas.{scenario_is, formed, planned, based}
 use Rattle.load_scenario.proofs.loading.load_scenario.Goals as goal
 
 pub returns-clause-scenario : goal.returns-clause-scenario
 returns-clause-scenario c =
-    scenario_is c.args.number _ _ _ _ c.load_setup.ensures (c.new.ensures ∙ c.in_ok-regions.ensures.items) (c.new-2.ensures ∙ c.in_ok-scripts.ensures) (c.new-3.ensures ∙ c.in_ok-schedule.ensures.items)
+    scenario_is c.args.number _ _ _ _ c.load_setup.ensures c.in_ok-load_regions.ensures c.in_ok-load_scripts.ensures c.in_ok-load_schedule.ensures
 
 pub returns-clause-formed : goal.returns-clause-formed
 returns-clause-formed c = formed c.args.number _ (returns-clause-scenario c)
