@@ -1,19 +1,17 @@
 -- The counts of a load, one part at a time.
 use Rattle.std.proofs.Common.{◌≡◌, ℕ, ◌+◌, ◌-◌, ◌<◌, List, [], ◌∷◌, ◌++◌, length, take, drop, get_or, refl, ap, ◌∙◌, sym, zero-add, arith}
-use Rattle.std.specs.Prelude.{count_by, sum_by, slice_index}
+use Rattle.std.specs.Prelude.{sum_by, slice_index}
 use Rattle.std.specs.List.{flat_map, range_with_len}
 use Rattle.std.proofs.lemmas.List.{take_more, append-nil}
 use Rattle.std.proofs.lemmas.List.Concat.{flat_map-append}
 use Rattle.std.proofs.lemmas.List.Sums.{sum_by_push}
 use Rattle.history.specs.declared.call.Answer.{Answer}
-use Rattle.gpt_descriptors.specs.declared.size.Size.{Size}
 use Rattle.gpt_descriptors.specs.declared.size.Size.TheVariants as size
-use Rattle.gpt_descriptors.specs.Entries.{l1_entry}
-use Rattle.gpt_descriptors.specs.Places.{GeometryData, Generation, place_of, table_part, generation_word}
+use Rattle.gpt_descriptors.specs.Places.{GeometryData, Generation, place_of, generation_word}
 use Rattle.scenario_text.specs.declared.scenario.Script.{Script}
 use Rattle.scenario_text.specs.Calls.{calls_of, AreAnswersOf}
 use Rattle.report_text.specs.declared.load.Counted.{Counted}
-use Rattle.report_text.specs.LoadText.{counted_name, count_in, left_in, is_contiguous, contiguous_in, count_line}
+use Rattle.report_text.specs.LoadText.{counted_name, count_in, left_in, count_line}
 use Rattle.report_text.proofs.TextLemmas.{range_more}
 use Rattle.report_text.proofs.CallerLemmas.{answers_length, from_get_or}
 use Rattle.report_text.proofs.StateLemmas.{generation_place, pushed, four}
@@ -54,10 +52,6 @@ left_more k scripts answers s own n total all lt es are eo en e =
 abbrev pub names_text : List (List Answer) → List Counted → List ℕ
 names_text answers names = flat_map (λ (c : Counted). count_line (counted_name c) (count_in c answers)) names
 
-pub contiguous_from : (g : GeometryData) (words tables : List ℕ) (z : Size) (n : ℕ) → tables ≡ table_part g words
-    → n ≡ count_by (λ (word : ℕ). is_contiguous z (l1_entry word)) tables → n ≡ contiguous_in g words z
-contiguous_from g words tables z n et e = e ∙ ap (count_by (λ (word : ℕ). is_contiguous z (l1_entry word))) et
-
 -- the lines after one more name
 pub name_more : (answers : List (List Answer)) (names : List Counted) (i : ℕ) (d : Counted) → i < length names
     → names_text answers (take (i + 1) names)
@@ -67,9 +61,8 @@ name_more answers names i d lt =
     ap (flat_map f) (take_more names i d lt) ∙ flat_map-append f (take i names) (get_or names i d ∷ [])
     ∙ ap (λ (text : List ℕ). names_text answers (take i names) ++ text) (append-nil (f (get_or names i d)))
 
-pub name_added : (out next name_now name : List ℕ) (n m : ℕ) → name_now ≡ name → n ≡ m → next ≡ out ++ count_line name_now n → next ≡ out ++ count_line name m
-name_added out next name_now name n m ename en e =
-    e ∙ (ap (λ (x : List ℕ). out ++ count_line x n) ename ∙ ap (λ (k : ℕ). out ++ count_line name k) en)
+pub line_added : (name out next : List ℕ) (n m : ℕ) → n ≡ m → next ≡ out ++ count_line name n → next ≡ out ++ count_line name m
+line_added name out next n m en e = e ∙ ap (λ (k : ℕ). out ++ count_line name k) en
 
 -- a text of five parts that begins as nothing
 pub five : (a b c d e x0 x1 x2 x3 x4 x5 : List ℕ) → x0 ≡ [] → x1 ≡ x0 ++ a → x2 ≡ x1 ++ b → x3 ≡ x2 ++ c → x4 ≡ x3 ++ d → x5 ≡ x4 ++ e

@@ -3,7 +3,7 @@ ghost use Rattle.gpt_descriptors.specs.Entries.{l1_entry};
 ghost use Rattle.gpt_descriptors.specs.Places.{word_count};
 ghost use Rattle.scenario_text.specs.Calls.{AreAnswersOf};
 ghost use Rattle.report_text.specs.RunText.{FitsScenario};
-ghost use Rattle.report_text.specs.LoadText.{counted_name, is_via, is_counted, count_in, left_in, is_contiguous, raises_in, count_line, answer_counts, word_counts, report_of_load};
+ghost use Rattle.report_text.specs.LoadText.{counted_name, is_via, is_counted, count_in, left_in, is_contiguous, contiguous_in, raises_in, count_line, answer_counts, word_counts, report_of_load};
 ghost use Rattle.report_text.specs.InnerAdding.{Adds};
 
 use crate::callers::call_count;
@@ -141,6 +141,15 @@ fn count_of_size(size: Size, words: &[u64]) -> u128
     words.iter().filter(|word| is_of_size(size, **word)).count() as u128
 }
 
+/// How many L1 words of all tables are contiguous descriptors of this size.
+fn count_contiguous(geometry: &Geometry, words: &[u64], size: Size) -> u128
+    requires { length words.now ≡ word_count geometry.now }
+    ensures { result ≡ contiguous_in geometry.now words.now size }
+{
+    let tables = words_of_tables(geometry, words);
+    count_of_size(size, tables)
+}
+
 /// The sum over the generations of 512 MB of what each is above the first one.
 fn sum_raises(geometry: &Geometry, words: &[u64]) -> u128
     requires { length words.now ≡ word_count geometry.now }
@@ -163,13 +172,24 @@ fn push_count(out: &mut String, name: &str, count: u128) -> Result<(), AllocErro
     write!(out, "{name} {count}\n")
 }
 
+/// Appends the line of a name: how many answers of all callers are counted under it.
+fn push_counted(
+    out: &mut String,
+    counted: Counted,
+    answers: &[Listed<Answer>],
+) -> Result<(), AllocError>
+    ensures { OnOk result (Adds out.old (count_line (counted_name counted) (count_in counted answers.now)) out.new) }
+{
+    let count = count_all(counted, answers);
+    push_count(out, name_of_counted(counted), count)
+}
+
 /// Appends the counts of the answers of all callers, a line for each name.
 fn push_answer_counts(out: &mut String, answers: &[Listed<Answer>]) -> Result<(), AllocError>
     ensures { OnOk result (Adds out.old (answer_counts answers.now) out.new) }
 {
     for counted in NAMES {
-        let count = count_all(counted, answers);
-        push_count(out, name_of_counted(counted), count)?;
+        push_counted(out, counted, answers)?;
     }
     Ok(())
 }
@@ -180,10 +200,21 @@ fn push_word_counts(out: &mut String, geometry: &Geometry, words: &[u64]) -> Res
     requires { length words.now ≡ word_count geometry.now }
     ensures { OnOk result (Adds out.old (word_counts geometry.now words.now) out.new) }
 {
-    let tables = words_of_tables(geometry, words);
-    push_count(out, "contig2m", count_of_size(Size::Two, tables))?;
-    push_count(out, "contig32m", count_of_size(Size::ThirtyTwo, tables))?;
-    push_count(out, "contig512m", count_of_size(Size::FiveTwelve, tables))?;
+    push_count(
+        out,
+        "contig2m",
+        count_contiguous(geometry, words, Size::Two),
+    )?;
+    push_count(
+        out,
+        "contig32m",
+        count_contiguous(geometry, words, Size::ThirtyTwo),
+    )?;
+    push_count(
+        out,
+        "contig512m",
+        count_contiguous(geometry, words, Size::FiveTwelve),
+    )?;
     push_count(out, "gens", sum_raises(geometry, words))
 }
 

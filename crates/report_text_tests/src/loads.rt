@@ -186,9 +186,7 @@ fn a_generation_below_the_first_one_counts_as_nothing(rt: HostRuntime) -> Result
     for (first, second, sum) in table {
         let outcome = Outcome {
             geometry,
-            answers: Listed::new(
-                vec![in alloc; answers_of(alloc, &[])?, answers_of(alloc, &[])?]?,
-            ),
+            answers: Listed::new(vec![in alloc; answers_of(alloc, &[])?, answers_of(alloc, &[])?]?),
             words: words_of(alloc, &geometry, &[(2180, 1, first), (2181, 1, second)])?,
         };
         assert!(rt; fits(&scenario, &outcome));
@@ -198,7 +196,11 @@ fn a_generation_below_the_first_one_counts_as_nothing(rt: HostRuntime) -> Result
              hit 0\ncold 0\nmissed 0\nleft 48\ncontig2m 0\ncontig32m 0\ncontig512m 0\n\
              gens {sum}\nend\n"
         )?;
-        assert_eq!(rt; report.as_slice(), text.as_bytes(), "of {first} and {second}");
+        assert_eq!(rt;
+            report.as_slice(),
+            text.as_bytes(),
+            "of {first} and {second}"
+        );
     }
     Ok(())
 }

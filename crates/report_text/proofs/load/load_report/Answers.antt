@@ -5,7 +5,7 @@ use Rattle.scenario_text.specs.declared.scenario.Script.{Script}
 use Rattle.line_text.specs.Lines.{count}
 use Rattle.report_text.specs.TablesText.{line, end_line}
 use Rattle.report_text.specs.LoadText.{left_in, count_line, answer_counts, word_counts, report_of_load}
-use Rattle.report_text.proofs.LoadLemmas.{name_added, five}
+use Rattle.report_text.proofs.LoadLemmas.{line_added, five}
 use Rattle.report_text.proofs.load.load_report.Goals as goal
 
 pub returns : goal.returns
@@ -28,6 +28,6 @@ returns c =
     ∙ five head (answer_counts o.answers) (count_line (codes "left") (left_in s.scripts o.answers)) (word_counts o.geometry o.words) end_line
     out0 out1 out2 out3 out4 out5 c.new-out.ensures.bytes c.in_ok-write.ensures.bytes
     (c.in_ok-push_answer_counts.ensures ∙ ap (λ (l : List (List Answer)). out1 ++ answer_counts l) answers)
-    (name_added out2 out3 _ (codes "left") _ _ refl left c.in_ok-push_count.ensures)
+    (line_added (codes "left") out2 out3 _ _ left c.in_ok-push_count.ensures)
     (c.in_ok-push_word_counts.ensures ∙ ap (λ (l : List ℕ). out3 ++ word_counts o.geometry l) c.as_slice-2.ensures)
     c.in_ok-push_str.ensures.bytes
