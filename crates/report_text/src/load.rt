@@ -178,7 +178,8 @@ fn push_counted(
     counted: Counted,
     answers: &[Listed<Answer>],
 ) -> Result<(), AllocError>
-    ensures { OnOk result (Adds out.old (count_line (counted_name counted) (count_in counted answers.now)) out.new) }
+    ensures { OnOk result (Adds out.old
+        (count_line (counted_name counted) (count_in counted answers.now)) out.new) }
 {
     let count = count_all(counted, answers);
     push_count(out, name_of_counted(counted), count)
