@@ -46,7 +46,7 @@ fn send<K: Sink>(sink: &mut K, status: Status, text: &[u8]) -> Status
     }
 }
 
-/// All that the program does: reads an input, and writes its reply. It waits for nobody and always
+/// All that the program does: reads an input, unless the words are a load, and writes its reply. It waits for nobody and always
 /// returns. The answer is the code of a `Status`, which says what was written.
 pub fn still<S: Source, K: Sink>(alloc: Global, words: &[&str], source: &mut S, sink: &mut K) -> u8
     // Words that are no command, and a load, read nothing.

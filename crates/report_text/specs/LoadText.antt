@@ -65,7 +65,7 @@ count_in c answers = sum_by (count_by (is_counted c)) answers
 -- the calls of all callers without an answer
 abbrev pub left_in : List Script → List (List Answer) → ℕ
 left_in [] answers = 0
-left_in (s ∷ scripts) [] = 0
+left_in (s ∷ scripts) [] = calls_of s + left_in scripts []
 left_in (s ∷ scripts) (own ∷ answers) = calls_of s - length own + left_in scripts answers
 
 -- ---- words
