@@ -1,8 +1,8 @@
 ghost use Rattle.std.specs.Prelude.{◌≡◌, true};
 ghost use Rattle.report_text.specs.RunText.{FitsScenario};
 
-use crate::reports::{fits, seen};
-use gpt_descriptors::{Generations, Geometry, Gpi, Reach, Size, l0_good};
+use crate::reports::{VIAS, fits, seen};
+use gpt_descriptors::{Generations, Geometry, Gpi, Size, l0_good};
 use history::{Answer, Outcome, Via};
 use report_text::*;
 use scenario_text::{Listed, Scenario, parse};
@@ -64,23 +64,7 @@ fn agent_answers(alloc: Global) -> Result<Listed<Answer>, Fail> {
 /// 22 accesses: 9 are allowed and 13 are not; 6 are hit, 7 are cold, 8 are missed and one is
 /// still.
 fn processor_answers(alloc: Global) -> Result<Listed<Answer>, Fail> {
-    let hit = Via::Hit {
-        reach: Reach::Word,
-        at: 7,
-    };
-    let cold = Via::Cold {
-        reach: Reach::Two,
-        lo: 7,
-        hi: 8,
-    };
-    let missed = Via::Missed {
-        reach: Reach::ThirtyTwo,
-        tag: 7,
-        at: 8,
-        then: Reach::FiveTwelve,
-        lo: 9,
-        hi: 10,
-    };
+    let [hit, cold, missed] = VIAS;
     let table = [
         (seen(true, Gpi::Any, 0, Via::Still), 1),
         (seen(true, Gpi::Secure, 1, hit), 2),

@@ -221,24 +221,29 @@ pub fn seen(allowed: bool, gpi: Gpi, level: u8, via: Via) -> Answer {
     })
 }
 
-fn processor_answers(alloc: Global) -> Result<Listed<Answer>, Fail> {
-    let hit = Via::Hit {
+/// How an access is hit, is cold, and is missed.
+pub const VIAS: [Via; 3] = [
+    Via::Hit {
         reach: Reach::Word,
         at: 7,
-    };
-    let cold = Via::Cold {
+    },
+    Via::Cold {
         reach: Reach::Two,
         lo: 7,
         hi: 8,
-    };
-    let missed = Via::Missed {
+    },
+    Via::Missed {
         reach: Reach::ThirtyTwo,
         tag: 7,
         at: 8,
         then: Reach::FiveTwelve,
         lo: 9,
         hi: 10,
-    };
+    },
+];
+
+fn processor_answers(alloc: Global) -> Result<Listed<Answer>, Fail> {
+    let [hit, cold, missed] = VIAS;
     Ok(Listed::new(vec![in alloc;
         seen(true, Gpi::Any, 0, Via::Still),
         seen(false, Gpi::NonSecure, 1, hit),
