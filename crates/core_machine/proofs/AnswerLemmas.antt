@@ -15,7 +15,7 @@ use Rattle.core_machine.proofs.Names.entry
 use Rattle.core_machine.proofs.Names.stage
 use Rattle.core_machine.proofs.Names.caller
 use Rattle.core_machine.proofs.AccessLemmas.{FailsLooks, own_fail}
-use Rattle.core_machine.proofs.LegalLemmas.{HaveTasks, AreMade}
+use Rattle.core_machine.specs.InnerFits.{AreMade, HaveTasks}
 use Rattle.core_machine.proofs.EntryLemmas.{refused_is, IsOwnEntry, prefix_fits, prefix_allowed}
 use Rattle.core_machine.proofs.AloneLemmas.{all_middle, any_weaker, later_number}
 use Rattle.delegate_ops.proofs.ScriptLemmas.{some_mapped}

@@ -21,6 +21,7 @@ use Rattle.processor.specs.InnerScript as cpus
 use Rattle.processor.specs.InnerProgress as progress
 use Rattle.processor.specs.InnerEntries.{entries_at as cpu_entries}
 use Rattle.processor.specs.InnerCpus.{task_of as cpu_task}
+use Rattle.core_machine.specs.InnerFits.{AreMade, HaveTasks, IsWalked}
 use Rattle.core_machine.proofs.AccessLemmas.{access_there, access_under_way, accessed_each, no_entries}
 
 -- ---- an entry that its call allows
@@ -130,18 +131,6 @@ cpu_known tasks answers c q events asks given cpu walked =
     (own_answer answers c q.answers (length q.answers) given ∙ slice_get_past q.answers (length q.answers) (omega arith)))
 
 -- ---- the entries of all callers
-
--- caller c was made with this geometry, and has come to where it is by some events of its script
-abbrev pub IsWalked : GeometryData → ℕ → Caller → Type 0
-IsWalked g c (caller.Agent a) = (a.geometry ≡ g) × IsAgent a × (events : List CallEvent) × HasWalked c a events
-IsWalked g c (caller.Cpu q) = (q.geometry ≡ g) × IsCpu q × (events : List CallEvent) × cpus.HasWalked c q events
-
-abbrev pub AreMade : GeometryData → List Caller → Type 0
-AreMade g callers = (c : ℕ) (x : Caller) → slice_get callers c ≡ Some x → IsWalked g c x
-
--- the tasks of each caller are among these
-abbrev pub HaveTasks : List (List Task) → List Caller → Type 0
-HaveTasks tasks callers = (c : ℕ) (x : Caller) → slice_get callers c ≡ Some x → slice_get tasks c ≡ Some (caller_tasks x)
 
 answers_at : (callers : List Caller) (c : ℕ) (x : Caller) → slice_get callers c ≡ Some x → slice_get (map caller_answers callers) c ≡ Some (caller_answers x)
 answers_at callers c x at = slice_get-map caller_answers callers c ∙ ap (λ (o : Option Caller). option_map caller_answers o) at

@@ -43,6 +43,7 @@ pub mod PartLemmas
 pub mod FreeLemmas
 pub mod NothingLeftLemmas
 pub mod RunLemmas
+pub mod MomentLemmas
 pub mod CallerLaws
 pub mod StillLemmas
 pub mod LeaveLemmas

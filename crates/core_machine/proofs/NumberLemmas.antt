@@ -133,12 +133,6 @@ played_role s c x at =
 pub opening_numbered : (s : Scenario) (n : ℕ) → n < (geometry_of s).cpus → (c : ℕ) × (x : Caller) × (slice_get (opening_of s).callers c ≡ Some x) × (number_by x ≡ Some n)
 opening_numbered s n low = numbers_there (geometry_of s) 0 n s.scripts (omega arith) (omega (arith, low))
 
-pub played_numbered : (s : Scenario) (n : ℕ) → n < (geometry_of s).cpus → (c : ℕ) × (x : Caller) × (slice_get (played s).callers c ≡ Some x) × (number_by x ≡ Some n)
-played_numbered s n low =
-    let first = opening_numbered s n low in
-    let last = other_at (callers_from (geometry_of s) 0 s.scripts) (played s).callers first.0 first.1 (sym (roles_left s)) first.2 in
-    (first.0, last.0, last.1, same_number last.0 first.1 last.2 ∙ first.3)
-
 -- ---- the code's callers, made one script after another
 
 rest_at : (scripts : List Script) (k : ℕ) (s : Script) → k < length scripts → s ≡ get_or scripts k s → drop k scripts ≡ s ∷ drop (k + 1) scripts

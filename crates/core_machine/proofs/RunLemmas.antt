@@ -1,11 +1,11 @@
 -- What a run leaves: its trace, and what answers and words are for the trace's history.
-use Rattle.std.proofs.Common.{◌≡◌, ℕ, zero, suc, ◌+◌, ◌*◌, ◌<◌, ◌≤◌, not, ◌⊎◌, ◌++◌, ◌∷◌, [], List, true, false, map, length, Option, Some, None, get_or, refl, sym, ap, ◌∙◌, subst, arith, inl, inr, Bool, ◌&&◌}
+use Rattle.std.proofs.Common.{◌≡◌, ℕ, zero, suc, ◌+◌, ◌*◌, ◌<◌, ◌≤◌, not, ◌⊎◌, ◌++◌, ◌∷◌, [], List, true, false, map, length, Option, Some, None, get_or, refl, sym, ap, ◌∙◌, subst, arith, inl, inr, Bool, ◌&&◌, eqb}
 use Rattle.std.specs.Prelude.{slice_get, slice_index, is_some, Result, Ok, Err, IfOk}
 use Rattle.alias_clean.specs.Lines.{has_line}
 use Rattle.history.specs.declared.outcome.Outcome.{Outcome}
 use Rattle.std.specs.List.{All, count_by}
 use Rattle.std.specs.Option.{option_map}
-use Rattle.std.proofs.lemmas.Bool.{cases_Bool}
+use Rattle.std.proofs.lemmas.Bool.{cases_Bool, eqb-true, eq-eqb}
 use Rattle.std.proofs.lemmas.List.{length-map}
 use Rattle.std.proofs.lemmas.Option.{slice_get_cases, slice_get-map, slice_get_past, slice_get_within, get_or_from_slice_get}
 use Rattle.history.specs.Rings.{AreRinged, HasRings, IsRinged, named_in}
@@ -31,7 +31,7 @@ use Rattle.delegate_ops.specs.Deciding.{HasCause}
 use Rattle.delegate_ops.specs.InnerAgents.{has_ended}
 use Rattle.delegate_ops.specs.Script.{Follows}
 use Rattle.core_machine.specs.InnerPlay.{outcome_of, played_trace}
-use Rattle.core_machine.proofs.ListLemmas.{some_or_none, one, get_front, count_cons, count_none}
+use Rattle.core_machine.proofs.ListLemmas.{some_or_none, none_passes, one, get_front, count_cons, count_none}
 use Rattle.core_machine.proofs.LockLemmas.{holder_bit}
 use Rattle.core_machine.proofs.CallerLemmas.{due_alone, placed_at, made_at_place}
 use Rattle.core_machine.proofs.MachineLemmas.{turns_hold, turns_shape}
@@ -40,8 +40,9 @@ use Rattle.core_machine.proofs.AnswerLemmas.{calls_cause, alone_told, worn_told}
 use Rattle.core_machine.proofs.FreeLemmas.{tables_told, words_told, whole_told}
 use Rattle.delegate_ops.proofs.FollowLemmas.{walked_follows, walked_ended}
 use Rattle.delegate_ops.proofs.NextLemmas.{next_there}
-use Rattle.core_machine.proofs.LegalLemmas.{HaveTasks, AreMade, IsWalked, made_legal, made_calls}
-use Rattle.core_machine.proofs.NumberLemmas.{callers_at, callers_count, opening_numbered, played_numbered, played_role, role_of, same_number, same_tasks, script_tasks}
+use Rattle.core_machine.specs.InnerFits.{AreMade, HaveTasks, IsWalked}
+use Rattle.core_machine.proofs.LegalLemmas.{made_legal, made_calls}
+use Rattle.core_machine.proofs.NumberLemmas.{callers_at, callers_count, opening_numbered, played_role, role_of, same_number, same_tasks, script_tasks}
 use Rattle.core_machine.proofs.AccessLemmas.{access_answer, access_looks, access_there}
 use Rattle.core_machine.specs.InnerCpuCaller.{duty_at}
 use Rattle.core_machine.specs.InnerCallers.{HasOwnStamps}
@@ -139,9 +140,17 @@ locks_ended g s tasks stands have ended n below =
 
 -- ---- duty words at the end
 
--- each number is one of a processor
-abbrev pub AreNumbered : GeometryData → List Caller → Type 0
-AreNumbered g callers = (p : ℕ) → p < g.cpus → (c : ℕ) × (x : Caller) × (slice_get callers c ≡ Some x) × (number_by x ≡ Some p)
+abbrev has_number : ℕ → Option ℕ → Bool
+has_number p None = false
+has_number p (Some q) = eqb q p
+
+has_it : (p : ℕ) (o : Option ℕ) → has_number p o ≡ true → o ≡ Some p
+has_it p None is = absurd cc
+has_it p (Some q) is = ap Some (eqb-true q p is)
+
+it_has : (p : ℕ) (o : Option ℕ) → o ≡ Some p → has_number p o ≡ true
+it_has p None is = absurd cc
+it_has p (Some q) is = eq-eqb q p cc
 
 off_by : (g : GeometryData) (x : Caller) → IsMade g x → length (caller_tasks x) ≤ length (caller_answers x) → duty_by x ≡ 0
 off_by g (caller.Agent a) made all = refl
@@ -149,12 +158,15 @@ off_by g (caller.Cpu q) made all =
     let starting : q.stage ≡ progress.Starting = subst (λ (o : Option Task). IsAt q.geometry o q.stage) (slice_get_past q.tasks (length q.answers) all) made.1.stage in
     ap duty_at starting
 
-pub duty_ended : (g : GeometryData) (s : Scene) (tasks : List (List Task)) → HoldsIn g s → HaveTasks tasks s.callers → AreNumbered g s.callers
+pub duty_ended : (g : GeometryData) (s : Scene) (tasks : List (List Task)) → HoldsIn g s → HaveTasks tasks s.callers
     → ((d k : ℕ) (t : Task) → task_at tasks d k ≡ Some t → answer_at (map caller_answers s.callers) d k ≡ None → ⊥) → (p : ℕ) → p < g.cpus → slice_index s.words (place_of g (Duty p)) ≡ 0
-duty_ended g s tasks stands have numbered ended p low =
-    let own = numbered p low in
-    stands.duties own.0 p own.1 own.2 own.3
-    ∙ off_by g own.1 (made_at_place g s own.0 own.1 stands own.2) (all_answered tasks s.callers own.0 own.1 have own.2 ended)
+duty_ended g s tasks stands have ended p low =
+    elim (some_or_none (λ x. has_number p (number_by x)) s.callers) [
+      | inl none ↦ stands.others p low (λ d x there is. let both : true ≡ false = sym (it_has p (number_by x) is) ∙ none_passes (λ y. has_number p (number_by y)) s.callers d x none there in cc)
+      | inr own ↦
+          stands.duties own.0 p own.1 own.2 (has_it p (number_by own.1) own.3)
+          ∙ off_by g own.1 (made_at_place g s own.0 own.1 stands own.2) (all_answered tasks s.callers own.0 own.1 have own.2 ended)
+    ]
 
 -- ---- lines
 
@@ -315,9 +327,9 @@ stamps_told g s tasks stands have made c own given asks answers =
 
 -- ---- facts over plain data
 
-pub fits_history : (g : GeometryData) (s : Scene) (tasks : List (List Task)) → HoldsIn g s → HaveTasks tasks s.callers → AreMade g s.callers → AreNumbered g s.callers → length tasks ≡ length s.callers
+pub fits_history : (g : GeometryData) (s : Scene) (tasks : List (List Task)) → HoldsIn g s → HaveTasks tasks s.callers → AreMade g s.callers → length tasks ≡ length s.callers
     → FitsHistory g s.first tasks (map caller_answers s.callers) s.words s.history
-fits_history g s tasks stands have made numbered count =
+fits_history g s tasks stands have made count =
     record {
       many = length-map s.callers caller_answers ∙ sym count;
       size = stands.shape.size;
@@ -337,10 +349,10 @@ fits_history g s tasks stands have made numbered count =
       generations = generations_told g s stands;
       ended = locks_ended g s tasks stands have;
       whole = whole_told g s stands (locks_ended g s tasks stands have);
-      duty = duty_ended g s tasks stands have numbered;
+      duty = duty_ended g s tasks stands have;
       cleaned = cleaned_told g s stands;
       touched = touched_told g s stands;
-      lines = λ ended. lines_ended g s stands (locks_ended g s tasks stands have ended) (duty_ended g s tasks stands have numbered ended);
+      lines = λ ended. lines_ended g s stands (locks_ended g s tasks stands have ended) (duty_ended g s tasks stands have ended);
     }
 
 -- ---- the trace of a schedule
@@ -476,7 +488,7 @@ is_run s opening =
     record {
       geometry = (turns_shape (opening_of s) (turns_in s)).0;
       turns = is_trace s opening made;
-      fits = fits_history (geometry_of s) end (map tasks_of s.scripts) stands (have_tasks s) made (played_numbered s) (many_tasks s);
+      fits = fits_history (geometry_of s) end (map tasks_of s.scripts) stands (have_tasks s) made (many_tasks s);
       locks = λ n low.
           let counts = trace_counts n (opening_of s) (turns_in s) low (first_map s, [], opening) in
           let free = opening.locks n low in

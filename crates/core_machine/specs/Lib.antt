@@ -15,4 +15,5 @@ pub mod InnerLaw
 pub mod InnerCallerLaws
 pub mod InnerMachine
 pub mod InnerOpening
+pub mod InnerFits
 pub mod InnerPlay

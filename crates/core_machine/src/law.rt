@@ -1,5 +1,6 @@
 ghost use Rattle.core_machine.specs.InnerLaw.{OneActKeeps};
 ghost use Rattle.core_machine.specs.InnerCallerLaws.{ActsHavePlaces, ActsKeepTheirCaller, AgentsGoOn, LocksHaveHolders, WaitsHaveCauses};
+ghost use Rattle.core_machine.specs.InnerFits.{ScenesBegin, FreshAreMade, ActsGoOn, ScenesFit};
 ghost use Rattle.core_machine.specs.InnerNothingLeft.{DoneIsCleaned, CleanedHasNothingLeft, CleanedStays};
 
 /// The law of the core: whatever act a caller makes next, its place is one of the shared words, the
@@ -33,4 +34,14 @@ pub fn nothing_is_left_at_done()
     ensures done { DoneIsCleaned }
     ensures settled { CleanedHasNothingLeft }
     ensures stays { CleanedStays }
+{}
+
+/// What the facts of the core say without a schedule, at any moment: callers that have made no act
+/// have them with the words before the first act, each act takes its caller one event further in its
+/// script, and wherever they hold the answers and the words fit the history.
+pub fn scenes_fit_their_history()
+    ensures begin { ScenesBegin }
+    ensures made { FreshAreMade }
+    ensures goes_on { ActsGoOn }
+    ensures fits { ScenesFit }
 {}

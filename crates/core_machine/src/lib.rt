@@ -12,7 +12,8 @@ mod playing;
 pub use caller::Caller;
 pub use calling::{callers, task_of};
 pub use law::{
-    callers_keep_to_their_words, nothing_is_left_at_done, one_act_keeps, waits_have_causes,
+    callers_keep_to_their_words, nothing_is_left_at_done, one_act_keeps, scenes_fit_their_history,
+    waits_have_causes,
 };
 pub use machine::Machine;
 pub use played::{count_cpus, geometry_of, play};

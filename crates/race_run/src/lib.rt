@@ -1,0 +1,12 @@
+//! Callers that share atomic words: a field of them, and a pass for each caller, with which it makes its
+//! acts one at a time through a shared reference, waiting for nobody.
+#![tactic(auto)]
+
+mod field;
+mod rule;
+mod step;
+mod view;
+
+pub use field::{Field, Pass};
+pub use rule::{Running, Start};
+pub use view::{Opening, View};

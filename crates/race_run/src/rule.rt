@@ -1,0 +1,47 @@
+use crate::view::View;
+use atomic_table::{Play, Split, TableRule};
+use core_machine::Caller;
+use gpt_descriptors::Geometry;
+use shared_words::PlainWords;
+use std::snapshot::Snapshot;
+
+/// What the table of a field is told when it is made. It has no copy of the words or of the callers:
+/// contracts alone see them.
+#[derive(Drop)]
+pub struct Start {
+    pub(crate) geometry: Geometry,
+    pub(crate) words: Snapshot<PlainWords>,
+    pub(crate) callers: Snapshot<Vec<Caller>>,
+}
+
+/// The rule of the shared words: they and the callers of all passes have the facts of the core with one
+/// history, of which each pass has seen a prefix.
+pub struct Running;
+
+impl TableRule<u64, View, Start> for Running {
+    ghost use Rattle.race_run.specs.InnerRule.{IsRunning, opening_of, whole};
+
+    ghost holds = { λ start s. IsRunning (opening_of start) s.words s.views };
+
+    ghost first = { λ start. whole (opening_of start) };
+}
+
+/// The first of the callers that a pass holds goes to a pass of its own.
+pub(crate) struct FirstCaller;
+
+impl Split<View> for FirstCaller {
+    ghost use Rattle.race_run.specs.InnerRule.{without_first, with_first};
+
+    ghost left = { without_first };
+
+    ghost right = { with_first };
+}
+
+/// The next act of the one caller of a pass.
+pub(crate) struct NextAct;
+
+impl Play<u64, View> for NextAct {
+    ghost use Rattle.race_run.specs.InnerRule.{Acted};
+
+    ghost then = { λ _ me n after. Acted me n after };
+}
