@@ -3,9 +3,8 @@ use Rattle.std.proofs.Common.{◌≡◌, ℕ, zero, suc, ◌+◌, ◌<◌, ◌�
 use Rattle.std.specs.Prelude.{slice_get}
 use Rattle.std.specs.List.{All}
 use Rattle.std.specs.Option.{option_map}
-use Rattle.std.proofs.lemmas.List.{drop-drop, drop_more, drop_all, length-map}
+use Rattle.std.proofs.lemmas.List.{drop-drop, drop_more, drop_all, length-map, map-append}
 use Rattle.std.proofs.lemmas.Option.{slice_get-map, slice_get_within, get_or_from_slice_get}
-use Rattle.std.proofs.lemmas.Grind.{map-append}
 use Rattle.atomic_table.specs.Seated.{TableId}
 use Rattle.core_machine.specs.declared.caller.Caller.{Caller}
 use Rattle.core_machine.specs.InnerCallers.{IsCallerOf, IsFresh}
@@ -41,11 +40,11 @@ dealt_more f xs k items p v within so is id view =
 
 -- the view that has the others still
 pub whole_less : (f : FieldData) (xs : List Held) (k : ℕ) (v : View) → v ≡ with_held (whole f.opening) (drop k xs) → without_first v ≡ with_held (whole f.opening) (drop (k + 1) xs)
-whole_less f xs k v is = ap without_first is ∙ ap (with_held (whole f.opening)) (drop-drop xs k 1)
+whole_less f xs k v is = ap without_first is ∙ ap (with_held (whole f.opening)) (drop-drop 1 k xs)
 
 pub all_dealt : (f : FieldData) (xs : List Held) (k : ℕ) (items : List PassData) → length xs ≤ k → map seen_of items ++ map (fresh_seen f) (drop k xs) ≡ map (fresh_seen f) xs → map seen_of items ≡ map (fresh_seen f) xs
 all_dealt f xs k items past so =
-    sym (append-nil (map seen_of items)) ∙ ap (λ (l : List Held). map seen_of items ++ map (fresh_seen f) l) (sym (drop_all xs k past)) ∙ so
+    sym (append-nil (map seen_of items)) ∙ ap (λ (l : List Held). map seen_of items ++ map (fresh_seen f) l) (sym (drop_all k xs past)) ∙ so
 
 -- ---- all passes
 
