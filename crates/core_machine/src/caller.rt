@@ -43,6 +43,7 @@ impl Caller {
 
     /// The next act, made on the words, if there is one. Whether it may have changed anything: it
     /// has not where there is none, or the caller had waited and waits again.
+    #[inline(always)]
     pub fn turn<W: Words>(&mut self, words: &mut W) -> bool
         requires place { MayBeMade (caller_next self.old) (W.words words.old) }
         requires readable { MayTake self.old (old_by (caller_next self.old) (W.words words.old)) }

@@ -54,6 +54,7 @@ impl<W: Words> Machine<W> {
 
     /// A turn of a caller, and whether it may have changed anything: it has not where the caller
     /// has no act, or had waited and waits again.
+    #[inline(always)]
     pub fn step(&mut self, caller: usize) -> bool
         requires caller { caller < length self.old.callers }
         requires invariant { HasInvariant self.old }

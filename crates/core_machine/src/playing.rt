@@ -9,6 +9,22 @@ use scenario_text::Slot;
 use shared_words::Words;
 
 impl<W: Words> Machine<W> {
+    /// Turns of a caller in which it makes a run of stores, at most this number, and how many they
+    /// were. It looks for none where a single turn is as good.
+    #[inline(always)]
+    fn run_of_many(&mut self, caller: usize, most: u32) -> u32
+        requires caller { caller < length self.old.callers }
+        requires invariant { HasInvariant self.old }
+        ensures turns { self.new ≡ after_turns self.old (replicate result caller) }
+        ensures most { result ≤ most }
+    {
+        if most == 1 {
+            0
+        } else {
+            self.run(caller, most)
+        }
+    }
+
     /// Turns of a caller, at most this number: those of a run of its stores, or one, and how many
     /// they were. Where they were none, a turn changes nothing.
     fn stride(&mut self, caller: usize, most: u32) -> u32
@@ -19,7 +35,7 @@ impl<W: Words> Machine<W> {
         ensures most { result ≤ most }
         ensures still { result ≡ 0 → after_turn self.old caller ≡ self.old }
     {
-        let run = self.run(caller, most);
+        let run = self.run_of_many(caller, most);
         if run > 0 {
             run
         } else if self.step(caller) {
@@ -48,6 +64,21 @@ impl<W: Words> Machine<W> {
         made > 0
     }
 
+    /// The turns of one caller in a round, as `turns` makes them; one has a short way.
+    #[inline(always)]
+    fn part(&mut self, caller: usize, count: u32) -> bool
+        requires caller { caller < length self.old.callers }
+        requires invariant { HasInvariant self.old }
+        ensures turns { self.new ≡ after_turns self.old (replicate count caller) }
+        ensures still { result ≡ false → self.new ≡ self.old }
+    {
+        if count == 1 {
+            self.step(caller)
+        } else {
+            self.turns(caller, count)
+        }
+    }
+
     /// This number of turns of each caller in order, and whether they may have changed anything.
     fn round(&mut self, count: u32) -> bool
         requires { HasInvariant self.old }
@@ -57,7 +88,7 @@ impl<W: Words> Machine<W> {
     {
         let mut changed = false;
         for caller in 0..self.callers().len() {
-            changed |= self.turns(caller, count);
+            changed |= self.part(caller, count);
         }
         changed
     }

@@ -166,6 +166,7 @@ impl Agent {
 
     /// The next act, made on the words, if there is one. Whether it may have changed anything: it
     /// has not where the agent has no act, or had waited and waits again.
+    #[inline(always)]
     pub fn turn<W: Words>(&mut self, words: &mut W) -> bool
         requires place { MayBeMade (next_of self.old) (W.words words.old) }
         requires readable { IsReadable self.old.stage

@@ -447,7 +447,8 @@ impl Progress {
         }
     }
 
-    /// The next act, made on the words, with what comes of it.
+    /// The next act, made on the words, with what comes of it. A wait has a short way.
+    #[inline(always)]
     pub fn turn<W: Words>(
         &mut self,
         geometry: &Geometry,
@@ -468,14 +469,17 @@ impl Progress {
         ensures turned { result ≡ turned_by (at_progress task places.now self.old)
             (old_in geometry.now task places.now self.old (W.words words.old)) }
     {
+        if let Phase::Waiting = self.phase {
+            if is_held(places.lock, words.apply(take(places.lock))) {
+                return Turned::Still;
+            }
+            self.phase = Phase::Looking;
+            return Turned::Goes;
+        }
         match self.phase {
             Phase::Locking | Phase::Waiting => {
-                let waited = self.waits();
                 let held = is_held(places.lock, words.apply(take(places.lock)));
                 self.locked(held);
-                if waited && held {
-                    return Turned::Still;
-                }
             }
             Phase::Looking => {
                 let word = words.apply(Act::Load(places.word));

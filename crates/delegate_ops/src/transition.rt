@@ -92,6 +92,7 @@ impl Transition {
 
     /// The next act, made on the words, with what comes of it. Where it released the lock, the call
     /// has ended with the `answer` that the transition still has.
+    #[inline(always)]
     #[tactic(auto, using(crate::proofs::TransitionLemmas::stays_transition))]
     pub fn turn<W: Words>(&mut self, geometry: &Geometry, words: &mut W) -> Turned
         requires transition { IsTransition geometry.now self.old }
