@@ -9,22 +9,6 @@ use scenario_text::Slot;
 use shared_words::Words;
 
 impl<W: Words> Machine<W> {
-    /// Turns of a caller in which it makes a run of stores, at most this number, and how many they
-    /// were. It looks for none where a single turn is as good.
-    #[inline(always)]
-    fn run_of_many(&mut self, caller: usize, most: u32) -> u32
-        requires caller { caller < length self.old.callers }
-        requires invariant { HasInvariant self.old }
-        ensures turns { self.new ≡ after_turns self.old (replicate result caller) }
-        ensures most { result ≤ most }
-    {
-        if most == 1 {
-            0
-        } else {
-            self.run(caller, most)
-        }
-    }
-
     /// Turns of a caller, at most this number: those of a run of its stores, or one, and how many
     /// they were. Where they were none, a turn changes nothing.
     fn stride(&mut self, caller: usize, most: u32) -> u32
@@ -35,9 +19,8 @@ impl<W: Words> Machine<W> {
         ensures most { result ≤ most }
         ensures still { result ≡ 0 → after_turn self.old caller ≡ self.old }
     {
-        let run = self.run_of_many(caller, most);
-        if run > 0 {
-            run
+        if self.stores(caller) {
+            self.run(caller, most)
         } else if self.step(caller) {
             1
         } else {

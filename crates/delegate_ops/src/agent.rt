@@ -137,6 +137,7 @@ impl Agent {
     }
 
     /// The call under way is answered, and those after it that have no acts.
+    #[inline(always)]
     fn end(&mut self, answer: Answer)
         requires { IsSome (task_of self.old) }
         ensures { self.new ≡ after_answer self.old answer }
@@ -188,6 +189,16 @@ impl Agent {
                     true
                 }
             },
+            None => false,
+        }
+    }
+
+    /// Whether the next act is a store of a splitting or of merging.
+    pub fn stores(&self) -> bool
+        ensures { IsTrue result → IsStoring self.now.stage }
+    {
+        match &self.transition {
+            Some(transition) => transition.stores(),
             None => false,
         }
     }

@@ -110,6 +110,13 @@ impl Transition {
         self.progress.turn(geometry, &self.places, self.task, words)
     }
 
+    /// Whether the next act is a store of a splitting or of merging.
+    pub fn stores(&self) -> bool
+        ensures { IsTrue result → IsStoring self.now.stage }
+    {
+        self.progress.stores()
+    }
+
     /// Its next stores of one value at places one after another, at most this number, as one run.
     /// It goes on as after them; they are still to be made on the words. The run isn't empty where
     /// the next act is a store of a splitting or of merging, and this number isn't 0.
