@@ -117,7 +117,7 @@ turns_leave {X = X} f m turns left =
 
 -- ---- the code's turn
 
-found_at : (callers : List Caller) (c : ℕ) (a : Caller) → c < length callers → a ≡ get_or callers c a → slice_get callers c ≡ Some a
+pub found_at : (callers : List Caller) (c : ℕ) (a : Caller) → c < length callers → a ≡ get_or callers c a → slice_get callers c ≡ Some a
 found_at [] c a within here = absurd (omega arith)
 found_at (x ∷ callers) zero a within here = ap Some (sym here)
 found_at (x ∷ callers) (suc c) a within here = found_at callers c a (omega (arith, within)) here

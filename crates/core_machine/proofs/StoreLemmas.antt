@@ -11,13 +11,13 @@ use Rattle.delegate_ops.specs.InnerAgents.{AgentData}
 use Rattle.delegate_ops.specs.InnerRuns.{stored_by}
 use Rattle.core_machine.specs.declared.caller.Caller.{Caller}
 use Rattle.core_machine.specs.declared.caller.Caller.TheVariants as caller
-use Rattle.core_machine.specs.InnerCallers.{caller_took, caller_stored, AreNext, IsCallerOf, IsMade}
+use Rattle.core_machine.specs.InnerCallers.{caller_took, caller_stored, AreNext, StoresNext, IsCallerOf, IsMade}
 use Rattle.core_machine.specs.InnerMachine.{MachineData, InvariantFor, HasInvariant, KeepsInvariant, after_turn, after_turns, trace_of}
 use Rattle.core_machine.specs.Trace.{history_of}
 use Rattle.core_machine.proofs.CallerLaws.{acts_keep}
 use Rattle.core_machine.proofs.LawLemmas.{acts_have_places}
 use Rattle.core_machine.proofs.ListLemmas.{get_set_same}
-use Rattle.core_machine.proofs.MachineLemmas.{after_turns-append, replicate_more, turns_more, turns_hold}
+use Rattle.core_machine.proofs.MachineLemmas.{after_turns-append, replicate_more, turns_more, turns_hold, found_at}
 
 -- ---- a caller
 
@@ -94,6 +94,22 @@ pub run_empty : (m : MachineData) (c : ℕ) (x y : Caller) (run : StoreRun) → 
 run_empty m c x y run here took none =
     let same : y ≡ get_or m.callers c x = took ∙ ap (λ (n : ℕ). caller_stored n x) none ∙ stored_none x ∙ here in
     ap (λ (callers : List Caller). record { geometry = m.geometry; callers = callers; words = m.words }) (ap (set m.callers c) same ∙ set-get_or m.callers c x)
+
+found_same : (callers : List Caller) (c : ℕ) (a x : Caller) → c < length callers → a ≡ get_or callers c a → slice_get callers c ≡ Some x → StoresNext a → StoresNext x
+found_same callers c a x within here at stores = let same = found_at callers c a within here in subst StoresNext (let e : a ≡ x = cc in e) stores
+
+pub stores_here : (callers : List Caller) (c : ℕ) (a : Caller) → c < length callers → a ≡ get_or callers c a → StoresNext a → (x : Caller) → slice_get callers c ≡ Some x → StoresNext x
+stores_here callers c a within here stores x at = found_same callers c a x within here at stores
+
+caller_there : (callers : List Caller) (c : ℕ) → c < length callers → (x : Caller) × (slice_get callers c ≡ Some x)
+caller_there [] c within = absurd (omega arith)
+caller_there (x ∷ callers) zero within = (x, refl)
+caller_there (x ∷ callers) (suc c) within = caller_there callers c (omega (arith, within))
+
+-- a run of a caller whose next act is a store isn't empty
+pub run_some : (m : MachineData) (c k most : ℕ) → c < length m.callers → 0 < most → ((x : Caller) → slice_get m.callers c ≡ Some x → StoresNext x)
+    → ((x : Caller) → slice_get m.callers c ≡ Some x → 0 < most → StoresNext x → 0 < k) → 0 < k
+run_some m c k most within low stores some = let there = caller_there m.callers c within in some there.0 there.1 low (stores there.0 there.1)
 
 -- ---- turns that are none, and turns after others
 

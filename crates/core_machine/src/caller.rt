@@ -1,4 +1,4 @@
-ghost use Rattle.std.specs.Prelude.{◌≡◌, ◌+◌, ◌^◌, ◌<◌, ◌≤◌, IsSome, false};
+ghost use Rattle.std.specs.Prelude.{◌≡◌, ◌+◌, ◌^◌, ◌<◌, ◌≤◌, IsSome, IsTrue, false};
 ghost use Rattle.shared_words.specs.Next.{old_by, words_after, MayBeMade};
 ghost use Rattle.delegate_ops.specs.InnerAgents.{IsStill};
 ghost use Rattle.core_machine.specs.InnerCallers.{caller_next, caller_took, caller_waits, MayTake};
@@ -43,6 +43,7 @@ impl Caller {
 
     /// The next act, made on the words, if there is one. Whether it may have changed anything: it
     /// has not where there is none, or the caller had waited and waits again.
+    #[inline(always)]
     pub fn turn<W: Words>(&mut self, words: &mut W) -> bool
         requires place { MayBeMade (caller_next self.old) (W.words words.old) }
         requires readable { MayTake self.old (old_by (caller_next self.old) (W.words words.old)) }
@@ -56,6 +57,16 @@ impl Caller {
         match self {
             Caller::Agent(agent) => agent.turn(words),
             Caller::Cpu(cpu) => cpu.turn(words),
+        }
+    }
+
+    /// Whether the next act is a store of a splitting or of merging.
+    pub fn stores(&self) -> bool
+        ensures { IsTrue result → StoresNext self.now }
+    {
+        match self {
+            Caller::Agent(agent) => agent.stores(),
+            Caller::Cpu(_) => false,
         }
     }
 

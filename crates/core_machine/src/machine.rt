@@ -1,4 +1,4 @@
-ghost use Rattle.std.specs.Prelude.{◌≡◌, ◌<◌, ◌≤◌, ℕ, List, [], ◌++◌, length, slice_get, replicate};
+ghost use Rattle.std.specs.Prelude.{◌≡◌, ◌<◌, ◌≤◌, ℕ, List, [], ◌++◌, length, slice_get, replicate, IsTrue};
 ghost use Rattle.std.specs.Prelude.{Some, false};
 ghost use Rattle.std.specs.List.{All};
 ghost use Rattle.gpi_values.specs.declared.gpi.Gpi.{Gpi};
@@ -54,6 +54,7 @@ impl<W: Words> Machine<W> {
 
     /// A turn of a caller, and whether it may have changed anything: it has not where the caller
     /// has no act, or had waited and waits again.
+    #[inline(always)]
     pub fn step(&mut self, caller: usize) -> bool
         requires caller { caller < length self.old.callers }
         requires invariant { HasInvariant self.old }
@@ -73,6 +74,16 @@ impl<W: Words> Machine<W> {
         ensures invariant { KeepsInvariant self.old self.new (turn_entries self.old caller) }
     {
         self.step(caller);
+    }
+
+    /// Whether the next act of a caller is a store of a splitting or of merging.
+    #[tactic(auto, using(crate::proofs::StoreLemmas::stores_here))]
+    pub fn stores(&self, caller: usize) -> bool
+        requires { caller < length self.now.callers }
+        ensures { IsTrue result → (x : TheCaller) → slice_get self.now.callers caller ≡ Some x
+            → StoresNext x }
+    {
+        self.callers[caller].stores()
     }
 
     /// Turns of a caller in which it makes a run of stores, at most this number, and how many they

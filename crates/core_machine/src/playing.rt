@@ -19,9 +19,8 @@ impl<W: Words> Machine<W> {
         ensures most { result ≤ most }
         ensures still { result ≡ 0 → after_turn self.old caller ≡ self.old }
     {
-        let run = self.run(caller, most);
-        if run > 0 {
-            run
+        if self.stores(caller) {
+            self.run(caller, most)
         } else if self.step(caller) {
             1
         } else {
@@ -48,6 +47,21 @@ impl<W: Words> Machine<W> {
         made > 0
     }
 
+    /// The turns of one caller in a round, as `turns` makes them; one has a short way.
+    #[inline(always)]
+    fn part(&mut self, caller: usize, count: u32) -> bool
+        requires caller { caller < length self.old.callers }
+        requires invariant { HasInvariant self.old }
+        ensures turns { self.new ≡ after_turns self.old (replicate count caller) }
+        ensures still { result ≡ false → self.new ≡ self.old }
+    {
+        if count == 1 {
+            self.step(caller)
+        } else {
+            self.turns(caller, count)
+        }
+    }
+
     /// This number of turns of each caller in order, and whether they may have changed anything.
     fn round(&mut self, count: u32) -> bool
         requires { HasInvariant self.old }
@@ -57,7 +71,7 @@ impl<W: Words> Machine<W> {
     {
         let mut changed = false;
         for caller in 0..self.callers().len() {
-            changed |= self.turns(caller, count);
+            changed |= self.part(caller, count);
         }
         changed
     }

@@ -137,6 +137,7 @@ impl Agent {
     }
 
     /// The call under way is answered, and those after it that have no acts.
+    #[inline(always)]
     fn end(&mut self, answer: Answer)
         requires { IsSome (task_of self.old) }
         ensures { self.new ≡ after_answer self.old answer }
@@ -166,6 +167,7 @@ impl Agent {
 
     /// The next act, made on the words, if there is one. Whether it may have changed anything: it
     /// has not where the agent has no act, or had waited and waits again.
+    #[inline(always)]
     pub fn turn<W: Words>(&mut self, words: &mut W) -> bool
         requires place { MayBeMade (next_of self.old) (W.words words.old) }
         requires readable { IsReadable self.old.stage
@@ -187,6 +189,16 @@ impl Agent {
                     true
                 }
             },
+            None => false,
+        }
+    }
+
+    /// Whether the next act is a store of a splitting or of merging.
+    pub fn stores(&self) -> bool
+        ensures { IsTrue result → IsStoring self.now.stage }
+    {
+        match &self.transition {
+            Some(transition) => transition.stores(),
             None => false,
         }
     }

@@ -144,6 +144,7 @@ impl Progress {
     }
 
     /// The L1 word was loaded, which has the granule at this field.
+    #[inline(always)]
     fn looked(&mut self, task: Task, field: u64, word: u64)
         requires descriptor { IsTrue (is_some (l1_entry word)) }
         requires field { field < 16 }
@@ -198,6 +199,7 @@ impl Progress {
     }
 
     /// The generation of this size was loaded.
+    #[inline(always)]
     fn read(&mut self, geometry: &Geometry, task: Task, size: Size, value: u64)
         requires descriptor { IsTrue (is_some (l1_entry self.old.kept.word)) }
         requires acts { idle_answer geometry.now task ≡ None }
@@ -343,6 +345,7 @@ impl Progress {
     }
 
     /// An act of merging was made, and answered `old`.
+    #[inline(always)]
     fn merged(&mut self, old: u64)
         requires { IsSome (next_of self.old.merging) }
         ensures { GoesTo self.new
@@ -384,6 +387,17 @@ impl Progress {
         }
     }
 
+    /// Whether the next act is a store of a splitting or of merging.
+    pub fn stores(&self) -> bool
+        ensures { IsTrue result → IsStoring (stage_of self.now) }
+    {
+        match self.phase {
+            Phase::Splitting(_) => true,
+            Phase::Merging => self.merging.stores(),
+            _ => false,
+        }
+    }
+
     /// The next stores of a splitting or of merging, at most this number, as one run. It goes
     /// on as after them. It isn't empty where the next act is such a store.
     pub fn take_run(&mut self, task: Task, most: usize) -> StoreRun
@@ -415,6 +429,7 @@ impl Progress {
     }
 
     /// The next act, made on the words, where it writes a word of the granule or a generation.
+    #[inline(always)]
     fn write<W: Words>(&mut self, geometry: &Geometry, places: &Places, task: Task, words: &mut W)
         requires transition { IsTransition geometry.now (at_progress task places.now self.old) }
         requires place { MayBeMade (next_in geometry.now task places.now self.old)
@@ -447,7 +462,8 @@ impl Progress {
         }
     }
 
-    /// The next act, made on the words, with what comes of it.
+    /// The next act, made on the words, with what comes of it. A wait has a short way.
+    #[inline(always)]
     pub fn turn<W: Words>(
         &mut self,
         geometry: &Geometry,
@@ -468,14 +484,17 @@ impl Progress {
         ensures turned { result ≡ turned_by (at_progress task places.now self.old)
             (old_in geometry.now task places.now self.old (W.words words.old)) }
     {
+        if let Phase::Waiting = self.phase {
+            if is_held(places.lock, words.apply(take(places.lock))) {
+                return Turned::Still;
+            }
+            self.phase = Phase::Looking;
+            return Turned::Goes;
+        }
         match self.phase {
             Phase::Locking | Phase::Waiting => {
-                let waited = self.waits();
                 let held = is_held(places.lock, words.apply(take(places.lock)));
                 self.locked(held);
-                if waited && held {
-                    return Turned::Still;
-                }
             }
             Phase::Looking => {
                 let word = words.apply(Act::Load(places.word));

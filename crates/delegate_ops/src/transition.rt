@@ -92,6 +92,7 @@ impl Transition {
 
     /// The next act, made on the words, with what comes of it. Where it released the lock, the call
     /// has ended with the `answer` that the transition still has.
+    #[inline(always)]
     #[tactic(auto, using(crate::proofs::TransitionLemmas::stays_transition))]
     pub fn turn<W: Words>(&mut self, geometry: &Geometry, words: &mut W) -> Turned
         requires transition { IsTransition geometry.now self.old }
@@ -107,6 +108,13 @@ impl Transition {
         ensures transition { IsTransition geometry.now self.new }
     {
         self.progress.turn(geometry, &self.places, self.task, words)
+    }
+
+    /// Whether the next act is a store of a splitting or of merging.
+    pub fn stores(&self) -> bool
+        ensures { IsTrue result → IsStoring self.now.stage }
+    {
+        self.progress.stores()
     }
 
     /// Its next stores of one value at places one after another, at most this number, as one run.

@@ -1,4 +1,4 @@
-ghost use Rattle.std.specs.Prelude.{◌≡◌, ◌+◌, ◌*◌, ◌/◌, ◌%◌, ◌^◌, ◌<◌, ◌≤◌, IsSome, IfSome, None};
+ghost use Rattle.std.specs.Prelude.{◌≡◌, ◌+◌, ◌*◌, ◌/◌, ◌%◌, ◌^◌, ◌<◌, ◌≤◌, IsSome, IfSome, None, IsTrue};
 ghost use Rattle.gpt_descriptors.specs.Sizes.{space_bytes};
 ghost use Rattle.gpt_descriptors.specs.Places.{IsGeometry, l1_index_of, l1_place_of};
 ghost use Rattle.table_meaning.specs.Fusing.{block_words, loads_of, load_at, store_at};
@@ -158,6 +158,13 @@ impl Fuse {
             Fusing::Storing(size, k) => stored(self.two, size, k),
             Fusing::Ended(size) => Fusing::Ended(size),
         };
+    }
+
+    /// Whether the next act is a store.
+    pub fn stores(&self) -> bool
+        ensures { IsTrue result → IsStoring self.now.step }
+    {
+        matches!(self.step, Fusing::Storing(..))
     }
 
     /// The next stores, at most this number, as one run. It goes on as after them; they are still to

@@ -144,6 +144,7 @@ impl Cpu {
     }
 
     /// The access under way is answered, and those after it that have no acts.
+    #[inline(always)]
     fn end(&mut self, answer: Answer)
         requires { IsSome (task_of self.old) }
         ensures { self.new ≡ after_answer self.old answer }
@@ -171,6 +172,7 @@ impl Cpu {
     }
 
     /// The next act, made on the words, if there is one. Whether there was one.
+    #[inline(always)]
     pub fn turn<W: Words>(&mut self, words: &mut W) -> bool
         requires place { MayBeMade (next_of self.old) (W.words words.old) }
         requires readable { IsReadable self.old.stage

@@ -143,6 +143,7 @@ impl Progress {
     }
 
     /// The duty word was set. The ring is searched.
+    #[inline(always)]
     fn started(&mut self, cache: &WalkCache, pa: u64)
         ensures { stage_of self.new ≡ after_search (newest_of cache.now.walks pa) }
     {
@@ -174,6 +175,7 @@ impl Progress {
     }
 
     /// The generation of the found walk was loaded.
+    #[inline(always)]
     fn tried(&mut self, geometry: &Geometry, pa: u64, space: Space, at: u64)
         requires descriptor { IsSome (l1_entry self.old.walk.word) }
         ensures { stage_of self.new ≡ after_try geometry.now pa space self.old.walk at }
@@ -209,6 +211,7 @@ impl Progress {
     }
 
     /// The L1 word of this address was loaded.
+    #[inline(always)]
     fn walked(&mut self, pa: u64, word: u64)
         requires descriptor { IsTrue (is_some (l1_entry word)) }
         ensures { stage_of self.new ≡ after_word self.old.generations self.old.missed
@@ -244,6 +247,7 @@ impl Progress {
     }
 
     /// The generation of the word's reach was loaded again. The walk is kept.
+    #[inline(always)]
     fn closed(&mut self, geometry: &Geometry, cache: &mut WalkCache, pa: u64, space: Space, hi: u64)
         requires descriptor { IsSome (l1_entry self.old.walk.word) }
         ensures after { stage_of self.new
@@ -284,6 +288,7 @@ impl Progress {
     }
 
     /// The next act, made on the words. Whether it is the last one.
+    #[inline(always)]
     pub fn turn<W: Words>(
         &mut self,
         geometry: &Geometry,
