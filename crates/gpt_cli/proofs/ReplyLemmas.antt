@@ -22,7 +22,7 @@ use Rattle.gpt_cli.specs.declared.reply.Reply.{Reply}
 use Rattle.gpt_cli.specs.Statuses.{code_of}
 use Rattle.gpt_cli.specs.Texts.{plan_text, base_text}
 use Rattle.gpt_cli.specs.Upheld.{Upholds}
-use Rattle.gpt_cli.specs.Replies.{refused, has_left, run_status, played_reply, accepted_reply, reply_of, Replies, loaded_reply, RepliesToLoad}
+use Rattle.gpt_cli.specs.Replies.{refused, has_left, run_status, accepted_reply, reply_of, Replies, loaded_reply, RepliesToLoad}
 use Rattle.gpt_cli.specs.InnerPreparing.{HasScenario, Refuses, refusal_line}
 
 -- the reply to a text that has a scenario

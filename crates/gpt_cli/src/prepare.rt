@@ -15,17 +15,26 @@ pub struct Prepared {
     pub tables: Tables,
 }
 
-/// Holds an input against all rules: what was prepared of it, or the first rule that refuses it.
-/// The limit comes first, then the lines, the regions and the base.
-pub fn prepare(alloc: Global, bytes: &[u8]) -> Result<Prepared, Refusal>
-    ensures prepared { IfOk result (λ prepared. IsPrepared prepared) }
-    ensures scenario { IfOk result (λ prepared. HasScenario bytes.now prepared.scenario) }
-    ensures refused { IfErr result (λ refusal. Refuses bytes.now refusal) }
+/// The scenario of an input, or what refuses its length or one of its lines. The memory of the input
+/// is given back here, before the answers take theirs.
+fn read_scenario(alloc: Global, bytes: Vec<u8>) -> Result<Scenario, Refusal>
+    ensures scenario { IfOk result (λ scenario. HasScenario bytes.items scenario) }
+    ensures refused { IfErr result (λ refusal. Refuses bytes.items refusal) }
 {
     if bytes.len() > INPUT_LIMIT {
         return Err(Refusal::TooLong);
     }
-    let scenario = parse(alloc, bytes)?;
+    Ok(parse(alloc, bytes.as_slice())?)
+}
+
+/// Holds an input against all rules: what was prepared of it, or the first rule that refuses it.
+/// The limit comes first, then the lines, the regions and the base.
+pub fn prepare(alloc: Global, bytes: Vec<u8>) -> Result<Prepared, Refusal>
+    ensures prepared { IfOk result (λ prepared. IsPrepared prepared) }
+    ensures scenario { IfOk result (λ prepared. HasScenario bytes.items prepared.scenario) }
+    ensures refused { IfErr result (λ refusal. Refuses bytes.items refusal) }
+{
+    let scenario = read_scenario(alloc, bytes)?;
     let plan = Plan::plan(alloc, scenario.regions.as_slice(), &scenario.setup)?;
     let tables = build(alloc, &plan, scenario.setup.base())?;
     Ok(Prepared { scenario, tables })

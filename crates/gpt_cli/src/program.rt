@@ -23,8 +23,8 @@ use std::alloc::{AllocError, Global};
 const USAGE: &[u8] = b"usage: gpt_cli tables | play | race | load N\n";
 
 /// The reply to the bytes that were read.
-fn reply_to(alloc: Global, command: Command, bytes: &[u8]) -> Result<Reply, AllocError>
-    ensures replies { IfOk result (λ reply. Replies command bytes.now reply) }
+fn reply_to(alloc: Global, command: Command, bytes: Vec<u8>) -> Result<Reply, AllocError>
+    ensures replies { IfOk result (λ reply. Replies command bytes.items reply) }
     ensures status { IfOk result (λ reply. (code_of reply.status ≢ code_of status.ReadFailed)
         × (code_of reply.status ≢ code_of status.NoMemory)) }
 {
@@ -105,7 +105,7 @@ pub fn still<S: Source, K: Sink>(alloc: Global, words: &[&str], source: &mut S, 
     match read_input(alloc, source) {
         Err(InputError::Fault) => Status::ReadFailed.code(),
         Err(InputError::Memory) => Status::NoMemory.code(),
-        Ok(bytes) => match reply_to(alloc, command, &bytes) {
+        Ok(bytes) => match reply_to(alloc, command, bytes) {
             Ok(reply) => send(sink, reply.status, reply.text.as_slice()).code(),
             Err(AllocError) => Status::NoMemory.code(),
         },

@@ -18,7 +18,7 @@ still_names : (pa : ℕ) (v : Via) → is_still v ≡ true → named_via pa v �
 still_names pa via.Still still = refl
 still_names pa (via.Hit reach at) still = refl
 still_names pa (via.Cold reach lo hi) still = absurd cc
-still_names pa (via.Missed reach tag at fresh lo hi) still = absurd cc
+still_names pa (via.Missed reach fresh tag at lo hi) still = absurd cc
 
 pub still_named : (t : Task) (access : Access) → is_still access.via ≡ true → named_in t (answer.Seen access) ≡ []
 still_named (task.Look pa space) access still = still_names pa access.via still

@@ -217,7 +217,7 @@ fit_stamps_later map first bytes granule gpi via.Still before h made later more 
 fit_stamps_later map first bytes granule gpi (via.Hit reach at) before h made later more fit = are_stamps_later map first bytes granule gpi reach at at before h made later more fit
 fit_stamps_later map first bytes granule gpi (via.Cold reach lo hi) before h made later more fit =
     (are_stamps_later map first bytes granule gpi reach lo hi before h made later more fit.0, fit.1)
-fit_stamps_later map first bytes granule gpi (via.Missed reach tag at fresh lo hi) before h made later more fit =
+fit_stamps_later map first bytes granule gpi (via.Missed reach fresh tag at lo hi) before h made later more fit =
     (are_stamps_later map first bytes granule gpi fresh lo hi before h made later more fit.0, fit.1, fit.2)
 
 pub stamped_later : (map : List Gpi) (first bytes c k granule : ℕ) (space : Space) (access : Access) (h made later : List Entry) → later ≡ h ++ made

@@ -17,7 +17,7 @@ use Rattle.history.specs.Legality.{is_still}
 abbrev pub named_via : ℕ → Via → List Named
 named_via pa (via.Cold reach lo hi) =
     record { reach = reach; first = first_around reach pa; tag = lo } ∷ []
-named_via pa (via.Missed reach tag at fresh lo hi) =
+named_via pa (via.Missed reach fresh tag at lo hi) =
     record { reach = fresh; first = first_around fresh pa; tag = lo } ∷ []
 named_via pa v = []
 
@@ -32,7 +32,7 @@ named_in t given = []
 abbrev pub IsFoundBy : Option Named → Via → Type 0
 IsFoundBy None (via.Cold reach lo hi) = Unit {0}
 IsFoundBy (Some walk) (via.Hit reach at) = (reach ≡ walk.reach) × (at ≡ walk.tag)
-IsFoundBy (Some walk) (via.Missed reach tag at fresh lo hi) =
+IsFoundBy (Some walk) (via.Missed reach fresh tag at lo hi) =
     (reach ≡ walk.reach) × (tag ≡ walk.tag) × (at ≢ walk.tag)
 IsFoundBy o v = ⊥
 

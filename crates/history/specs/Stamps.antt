@@ -70,7 +70,7 @@ pub record WasOld (first bytes granule : ℕ) (reach : Reach) (tag at : ℕ) (be
 -- how an access found its GPI that walked the tables: where there was a kept walk, it wasn't used
 abbrev pub walked : Option OldWalk → Reach → ℕ → ℕ → Via
 walked None reach lo hi = via.Cold reach lo hi
-walked (Some old) reach lo hi = via.Missed old.reach old.tag old.at reach lo hi
+walked (Some old) reach lo hi = via.Missed old.reach reach old.tag old.at lo hi
 
 -- What the stamps of an access say, by how it found its GPI: a hit has one generation for both
 -- stamps, and without a hit the GPI is the map's.
@@ -81,7 +81,7 @@ FitStamps map first bytes granule gpi (via.Hit reach at) before h =
 FitStamps map first bytes granule gpi (via.Cold reach lo hi) before h =
     AreStamps map first bytes granule gpi reach lo hi before h
     × (gpi_after map before granule ≡ Some gpi)
-FitStamps map first bytes granule gpi (via.Missed reach tag at fresh lo hi) before h =
+FitStamps map first bytes granule gpi (via.Missed reach fresh tag at lo hi) before h =
     AreStamps map first bytes granule gpi fresh lo hi before h
     × (gpi_after map before granule ≡ Some gpi)
     × WasOld first bytes granule reach tag at before

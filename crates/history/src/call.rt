@@ -68,12 +68,13 @@ pub enum Via {
         lo: u64,
         hi: u64,
     },
-    /// From a walk of the reach `then`, since the newest kept walk had a tag other than `at`.
+    /// From a walk of the reach `then`, since the newest kept walk had a tag other than `at`. The
+    /// reaches stand side by side, so that an answer takes 56 bytes.
     Missed {
         reach: Reach,
+        then: Reach,
         tag: u64,
         at: u64,
-        then: Reach,
         lo: u64,
         hi: u64,
     },

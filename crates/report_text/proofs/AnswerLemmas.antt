@@ -16,7 +16,7 @@ pub join_via : (field : List ℕ) (v : Via) → join_with_byte 32 (field ∷ via
 join_via field via.Still = refl
 join_via field (via.Hit reach at) = refl
 join_via field (via.Cold reach lo hi) = refl
-join_via field (via.Missed reach tag at next lo hi) = refl
+join_via field (via.Missed reach next tag at lo hi) = refl
 
 join_answer : (field : List ℕ) (a : Answer) → join_with_byte 32 (field ∷ answer_fields a) ≡ field ++ 32 ∷ join_with_byte 32 (answer_fields a)
 join_answer field answer.Inval = refl

@@ -1,17 +1,25 @@
 -- The counts of a load, one part at a time.
-use Rattle.std.proofs.Common.{◌≡◌, ℕ, ◌+◌, ◌-◌, ◌<◌, List, [], ◌∷◌, ◌++◌, length, take, drop, get_or, refl, ap, ◌∙◌, sym, zero-add, arith}
-use Rattle.std.specs.Prelude.{sum_by, slice_index}
+use Rattle.std.proofs.Common.{◌≡◌, ℕ, ◌+◌, ◌-◌, ◌<◌, ◌≤◌, cond, Option, Some, None, inl, inr, List, [], ◌∷◌, ◌++◌, length, take, drop, get_or, refl, ap, ◌∙◌, sym, zero-add, arith}
+use Rattle.std.specs.Prelude.{sum_by, count_by, slice_index}
+use native.Mathlib.Numerals.{unary_clauses}
 use Rattle.std.specs.List.{flat_map, range_with_len}
-use Rattle.std.proofs.lemmas.List.{take_more, append-nil}
+use Rattle.std.proofs.lemmas.List.{take_more, take_all, append-nil, length-take-le}
 use Rattle.std.proofs.lemmas.List.Concat.{flat_map-append}
-use Rattle.std.proofs.lemmas.List.Sums.{sum_by_push}
+use Rattle.std.proofs.lemmas.Bool.{cases_Bool}
+use Rattle.std.proofs.lemmas.List.Sums.{sum_by_push, count_by_more_yes, count_by_more_no, count_by-le-length}
 use Rattle.history.specs.declared.call.Answer.{Answer}
+use Rattle.gpt_descriptors.specs.declared.size.Size.{Size}
 use Rattle.gpt_descriptors.specs.declared.size.Size.TheVariants as size
-use Rattle.gpt_descriptors.specs.Places.{GeometryData, Generation, place_of, generation_word}
+use Rattle.gpt_descriptors.specs.declared.entry.L1Entry.{L1Entry}
+use Rattle.gpt_descriptors.specs.declared.entry.L1Entry.TheVariants as l1
+use Rattle.gpt_descriptors.specs.Entries.{l1_entry}
+use Rattle.gpt_descriptors.specs.Places.{GeometryData, Generation, place_of, table_part, generation_word}
 use Rattle.scenario_text.specs.declared.scenario.Script.{Script}
 use Rattle.scenario_text.specs.Calls.{calls_of, AreAnswersOf}
 use Rattle.report_text.specs.declared.load.Counted.{Counted}
-use Rattle.report_text.specs.LoadText.{counted_name, count_in, left_in, count_line}
+use Rattle.report_text.specs.declared.load.Contiguous.{Contiguous}
+use Rattle.report_text.specs.LoadText.{counted_name, count_in, left_in, count_line, is_contiguous, contiguous_in}
+use Rattle.report_text.specs.InnerSizes.{size_in, counted_size, size_count, sizes_of}
 use Rattle.report_text.proofs.TextLemmas.{range_more}
 use Rattle.report_text.proofs.CallerLemmas.{answers_length, from_get_or}
 use Rattle.report_text.proofs.StateLemmas.{generation_place, pushed, four}
@@ -70,3 +78,63 @@ pub five : (a b c d e x0 x1 x2 x3 x4 x5 : List ℕ) → x0 ≡ [] → x1 ≡ x0 
 five a b c d e x0 x1 x2 x3 x4 x5 none e1 e2 e3 e4 e5 =
     pushed x0 (((a ++ b) ++ c) ++ d) e ((((a ++ b) ++ c) ++ d) ++ e) x4 x5 refl (four x0 a b c d (((a ++ b) ++ c) ++ d) x1 x2 x3 x4 refl e1 e2 e3 e4) e5
     ∙ ap (λ (t : List ℕ). t ++ ((((a ++ b) ++ c) ++ d) ++ e)) none
+
+-- ---- contiguous words
+
+-- the words of a size, after one more word
+size_more : (z : Size) (words : List ℕ) (k : ℕ) → k < length words
+    → size_count z (take (k + 1) words) ≡ size_count z (take k words) + cond (is_contiguous z (l1_entry (get_or words k 0))) 1 0
+unfolding size_count
+size_more z words k lt =
+    let p = λ (word : ℕ). is_contiguous z (l1_entry word) in
+    elim (cases_Bool (p (get_or words k 0))) [
+      | inl is ↦ rw is (count_by_more_yes p words k 0 lt is)
+      | inr isnt ↦ rw isnt (let same = count_by_more_no p words k 0 lt isnt in omega (arith, same))
+    ]
+
+abbrev pub made : ℕ → ℕ → ℕ → Contiguous
+made a b c = record { two = a; thirty_two = b; five_twelve = c }
+
+-- the counts of one more entry, each by its own size
+counted_each : (e : Option L1Entry) (c : Contiguous) → counted_size (size_in e) c
+    ≡ made (c.two + cond (is_contiguous size.Two e) 1 0) (c.thirty_two + cond (is_contiguous size.ThirtyTwo e) 1 0)
+    (c.five_twelve + cond (is_contiguous size.FiveTwelve e) 1 0)
+counted_each None c = simp unary_clauses refl
+counted_each (Some (l1.Granules word)) c = simp unary_clauses refl
+counted_each (Some (l1.Contig size.Two gpi)) c = simp unary_clauses refl
+counted_each (Some (l1.Contig size.ThirtyTwo gpi)) c = simp unary_clauses refl
+counted_each (Some (l1.Contig size.FiveTwelve gpi)) c = simp unary_clauses refl
+
+made_same : (a b c d e f : ℕ) → a ≡ d → b ≡ e → c ≡ f → made a b c ≡ made d e f
+made_same a b c d e f one two three = rw (one, two, three) refl
+
+-- the counts after one more word, of which the size is known
+pub sizes_more : (words : List ℕ) (k word : ℕ) (z : Option Size) (c : Contiguous) → k < length words → word ≡ get_or words k 0 → z ≡ size_in (l1_entry word) → c ≡ sizes_of (take k words)
+    → counted_size z c ≡ sizes_of (take (k + 1) words)
+sizes_more words k word z c lt here known counted =
+    ap (λ (s : Option Size). counted_size s c) (known ∙ ap (λ (w : ℕ). size_in (l1_entry w)) here)
+    ∙ (ap (counted_size (size_in (l1_entry (get_or words k 0)))) counted
+    ∙ (counted_each (l1_entry (get_or words k 0)) (sizes_of (take k words))
+    ∙ made_same _ _ _ _ _ _ (sym (size_more size.Two words k lt)) (sym (size_more size.ThirtyTwo words k lt)) (sym (size_more size.FiveTwelve words k lt))))
+
+pub no_sizes : (words : List ℕ) → made 0 0 0 ≡ sizes_of (take 0 words)
+unfolding size_count
+no_sizes words = refl
+
+-- no more words are of a size than there are
+pub size_below : (z : Size) (words : List ℕ) (k n : ℕ) → k < length words → n ≡ size_count z (take k words) → n ≤ k
+unfolding size_count
+size_below z words k n lt is =
+    let most = count_by-le-length (λ (word : ℕ). is_contiguous z (l1_entry word)) (take k words) in
+    let within : k ≤ length words = omega (arith, lt) in
+    let short = length-take-le k words within in
+    omega (arith, most, short, is)
+
+-- all words are counted
+pub all_sizes : (words : List ℕ) (k : ℕ) (c : Contiguous) → length words ≤ k → c ≡ sizes_of (take k words) → c ≡ sizes_of words
+all_sizes words k c all counted = counted ∙ ap sizes_of (take_all k words all)
+
+-- the words of all tables are those of their part
+pub counted_in : (g : GeometryData) (words tables : List ℕ) (z : Size) (n : ℕ) → tables ≡ table_part g words → n ≡ size_count z tables → n ≡ contiguous_in g words z
+unfolding size_count
+counted_in g words tables z n are counted = counted ∙ ap (count_by (λ (word : ℕ). is_contiguous z (l1_entry word))) are

@@ -4,3 +4,4 @@ pub mod RunText
 pub mod RunParts
 pub mod InnerAdding
 pub mod LoadText
+pub mod InnerSizes

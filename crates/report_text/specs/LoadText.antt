@@ -37,7 +37,7 @@ counted_name counted.Missed = codes "missed"
 abbrev pub is_via : Counted → Via → Bool
 is_via counted.Hit (via.Hit reach at) = true
 is_via counted.Cold (via.Cold reach lo hi) = true
-is_via counted.Missed (via.Missed reach tag at next lo hi) = true
+is_via counted.Missed (via.Missed reach next tag at lo hi) = true
 is_via c v = false
 
 -- the answer is counted under this name

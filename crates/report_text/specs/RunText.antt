@@ -59,7 +59,7 @@ abbrev pub via_fields : Via → List (List ℕ)
 via_fields via.Still = codes "still" ∷ []
 via_fields (via.Hit reach at) = codes "hit" ∷ reach_name reach ∷ count at ∷ []
 via_fields (via.Cold reach lo hi) = codes "cold" ∷ reach_name reach ∷ count lo ∷ count hi ∷ []
-via_fields (via.Missed reach tag at next lo hi) =
+via_fields (via.Missed reach next tag at lo hi) =
     codes "missed" ∷ reach_name reach ∷ count tag ∷ count at
     ∷ reach_name next ∷ count lo ∷ count hi ∷ []
 

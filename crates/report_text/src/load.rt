@@ -1,10 +1,12 @@
-ghost use Rattle.std.specs.Prelude.{◌≡◌, IfOk, OnOk, count_by, length};
+ghost use Rattle.std.specs.Prelude.{◌≡◌, ◌<◌, ◌-◌, ◌^◌, IfOk, OnOk, count_by, length};
 ghost use Rattle.gpt_descriptors.specs.Entries.{l1_entry};
 ghost use Rattle.gpt_descriptors.specs.Places.{word_count};
+ghost use Rattle.gpt_descriptors.specs.declared.size.Size.TheVariants as size;
 ghost use Rattle.scenario_text.specs.Calls.{AreAnswersOf};
 ghost use Rattle.report_text.specs.RunText.{FitsScenario};
-ghost use Rattle.report_text.specs.LoadText.{counted_name, is_via, is_counted, count_in, left_in, is_contiguous, contiguous_in, raises_in, count_line, answer_counts, word_counts, report_of_load};
+ghost use Rattle.report_text.specs.LoadText.{counted_name, is_via, is_counted, count_in, left_in, contiguous_in, raises_in, count_line, answer_counts, word_counts, report_of_load};
 ghost use Rattle.report_text.specs.InnerAdding.{Adds};
+ghost use Rattle.report_text.specs.InnerSizes.{size_in, counted_size, sizes_of};
 
 use crate::callers::call_count;
 use crate::state::{generations_of, words_of_tables};
@@ -124,30 +126,72 @@ fn count_left(scripts: &[Script], answers: &[Listed<Answer>]) -> u128
     total
 }
 
-/// Whether an L1 word is the contiguous descriptor of this size.
-fn is_of_size(size: Size, word: u64) -> bool
-    ensures { result ≡ is_contiguous size (l1_entry word) }
-{
-    match decode_l1(word) {
-        Some(L1Entry::Contig(other, _)) => size == other,
-        _ => false,
+/// How many L1 words are contiguous descriptors, by size.
+#[derive(Clone, Copy)]
+struct Contiguous {
+    two: usize,
+    thirty_two: usize,
+    five_twelve: usize,
+}
+
+impl Contiguous {
+    /// Counts one more word, the contiguous descriptor of this size if it is one.
+    fn count(&mut self, size: Option<Size>)
+        requires two { self.old.two < 2 ^ 64 - 1 }
+        requires thirty_two { self.old.thirty_two < 2 ^ 64 - 1 }
+        requires five_twelve { self.old.five_twelve < 2 ^ 64 - 1 }
+        ensures { self.new ≡ counted_size size self.old }
+    {
+        match size {
+            Some(Size::Two) => self.two += 1,
+            Some(Size::ThirtyTwo) => self.thirty_two += 1,
+            Some(Size::FiveTwelve) => self.five_twelve += 1,
+            None => {}
+        }
     }
 }
 
-/// How many L1 words are contiguous descriptors of this size.
-fn count_of_size(size: Size, words: &[u64]) -> u128
-    ensures { result ≡ count_by (λ word. is_contiguous size (l1_entry word)) words.now }
+/// The size of the contiguous descriptor that an L1 word is, if it is one.
+fn contiguous_size(word: u64) -> Option<Size>
+    ensures { result ≡ size_in (l1_entry word) }
 {
-    words.iter().filter(|word| is_of_size(size, **word)).count() as u128
+    match decode_l1(word) {
+        Some(L1Entry::Contig(size, _)) => Some(size),
+        _ => None,
+    }
 }
 
-/// How many L1 words of all tables are contiguous descriptors of this size.
-fn count_contiguous(geometry: &Geometry, words: &[u64], size: Size) -> u128
-    requires { length words.now ≡ word_count geometry.now }
-    ensures { result ≡ contiguous_in geometry.now words.now size }
+/// How many of these L1 words are contiguous descriptors, by size, in one pass. A word that is the
+/// one before it once more isn't decoded again.
+fn count_sizes(words: &[u64]) -> Contiguous
+    ensures { result ≡ sizes_of words.now }
 {
-    let tables = words_of_tables(geometry, words);
-    count_of_size(size, tables)
+    let mut counts = Contiguous {
+        two: 0,
+        thirty_two: 0,
+        five_twelve: 0,
+    };
+    let mut last = 0;
+    let mut size = contiguous_size(last);
+    for k in 0..words.len() {
+        if words[k] != last {
+            last = words[k];
+            size = contiguous_size(last);
+        }
+        counts.count(size);
+    }
+    counts
+}
+
+/// How many L1 words of all tables are contiguous descriptors, by size.
+fn count_contiguous(geometry: &Geometry, words: &[u64]) -> Contiguous
+    requires { length words.now ≡ word_count geometry.now }
+    ensures two { result.two ≡ contiguous_in geometry.now words.now size.Two }
+    ensures thirty_two { result.thirty_two ≡ contiguous_in geometry.now words.now size.ThirtyTwo }
+    ensures five_twelve { result.five_twelve
+        ≡ contiguous_in geometry.now words.now size.FiveTwelve }
+{
+    count_sizes(words_of_tables(geometry, words))
 }
 
 /// The sum over the generations of 512 MB of what each is above the first one.
@@ -201,21 +245,10 @@ fn push_word_counts(out: &mut String, geometry: &Geometry, words: &[u64]) -> Res
     requires { length words.now ≡ word_count geometry.now }
     ensures { OnOk result (Adds out.old (word_counts geometry.now words.now) out.new) }
 {
-    push_count(
-        out,
-        "contig2m",
-        count_contiguous(geometry, words, Size::Two),
-    )?;
-    push_count(
-        out,
-        "contig32m",
-        count_contiguous(geometry, words, Size::ThirtyTwo),
-    )?;
-    push_count(
-        out,
-        "contig512m",
-        count_contiguous(geometry, words, Size::FiveTwelve),
-    )?;
+    let contiguous = count_contiguous(geometry, words);
+    push_count(out, "contig2m", contiguous.two as u128)?;
+    push_count(out, "contig32m", contiguous.thirty_two as u128)?;
+    push_count(out, "contig512m", contiguous.five_twelve as u128)?;
     push_count(out, "gens", sum_raises(geometry, words))
 }
 

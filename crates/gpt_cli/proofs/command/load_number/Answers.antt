@@ -1,4 +1,4 @@
-use Rattle.std.proofs.Common.{arith, sym, ◌∙◌}
+use Rattle.std.proofs.Common.{arith, ◌∙◌}
 use Rattle.gpt_cli.proofs.RequestLemmas.{number_read}
 use Rattle.gpt_cli.proofs.command.load_number.Goals as goal
 

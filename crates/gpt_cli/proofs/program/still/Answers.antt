@@ -1,5 +1,5 @@
-use Rattle.std.proofs.Common.{rules, ℕ, List, Some, sym, ap, ◌∙◌, subst}
-use Rattle.gpt_cli.specs.Replies.{usage, Replies}
+use Rattle.std.proofs.Common.{rules, ℕ, Some, sym, ap, ◌∙◌, subst}
+use Rattle.gpt_cli.specs.Replies.{usage}
 use Rattle.gpt_cli.specs.Runs.{Delivers}
 use Rattle.gpt_cli.proofs.ReplyLemmas.{replies_same, load_same}
 use Rattle.gpt_cli.proofs.program.still.Goals as goal
@@ -17,7 +17,7 @@ returns-in-Ok-reply_to-clause-reply g c = λ command words not_fault not_memory.
   c.in-Ok-read_input.ensures.ended,
   c.in-Ok-read_input.ensures.ok,
   replies_same c.request_of.result c.in-Read.command command c.in-Ok-read_input.bytes.items c.in-Ok-reply_to.reply (c.in-Some.is ∙ ap Some c.in-Read.is) ((c.request_of.ensures.command command).1 words)
-      (subst (λ (bytes : List ℕ). Replies c.in-Read.command bytes c.in-Ok-reply_to.reply) c.deref.ensures.value c.in-Ok-reply_to.ensures.replies),
+      c.in-Ok-reply_to.ensures.replies,
   search rules,
 )
 

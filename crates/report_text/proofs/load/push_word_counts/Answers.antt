@@ -19,8 +19,8 @@ returns c =
     on_ok _ _ _
     (λ last. four out0 (count_line (codes "contig2m") (contiguous_in g words size.Two)) (count_line (codes "contig32m") (contiguous_in g words size.ThirtyTwo))
     (count_line (codes "contig512m") (contiguous_in g words size.FiveTwelve)) (count_line (codes "gens") (raises_in g words)) (word_counts g words) out1 out2 out3 out4 refl
-    (line_added (codes "contig2m") out0 out1 _ _ c.count_contiguous.ensures c.in_ok-push_count.ensures)
-    (line_added (codes "contig32m") out1 out2 _ _ c.count_contiguous-2.ensures c.in_ok-push_count-2.ensures)
-    (line_added (codes "contig512m") out2 out3 _ _ c.count_contiguous-3.ensures c.in_ok-push_count-3.ensures)
+    (line_added (codes "contig2m") out0 out1 _ _ c.count_contiguous-contiguous.ensures.two c.in_ok-push_count.ensures)
+    (line_added (codes "contig32m") out1 out2 _ _ c.count_contiguous-contiguous.ensures.thirty_two c.in_ok-push_count-2.ensures)
+    (line_added (codes "contig512m") out2 out3 _ _ c.count_contiguous-contiguous.ensures.five_twelve c.in_ok-push_count-3.ensures)
     (line_added (codes "gens") out3 out4 _ _ c.sum_raises.ensures last))
     c.push_count-4.ensures
