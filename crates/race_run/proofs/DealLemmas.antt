@@ -64,11 +64,13 @@ are_opened f items callers so is =
       many = sym (length-map items seen_of) ∙ ap (λ (l : List (TableId × View)). length l) so ∙ length-map (numbered 0 callers) (fresh_seen f) ∙ numbered_count 0 callers;
       each = λ c p x at there.
           let same = pass_at f items callers c p x so at there in
-          let view : p.view ≡ fresh_view f.opening (c, x) = ap (λ (s : TableId × View). s.1) same in
-          (record {
-            field = ap (λ (s : TableId × View). s.0) same;
-            opening = ap (λ (v : View). v.opening) view;
-            held = ap (λ (v : View). v.held) view;
-            made = fresh_is_of f.opening.geometry x (subst (IsFresh f.opening.geometry) (get_or_from_slice_get callers c x x there) (is c x (slice_get_within callers c x there)));
-          }, view);
+          let view : p.view ≡ fresh_view f.opening (c, x) = ap (λ (s : TableId × View). s.1) same in (
+            record {
+              field = ap (λ (s : TableId × View). s.0) same;
+              opening = ap (λ (v : View). v.opening) view;
+              held = ap (λ (v : View). v.held) view;
+              made = fresh_is_of f.opening.geometry x (subst (IsFresh f.opening.geometry) (get_or_from_slice_get callers c x x there) (is c x (slice_get_within callers c x there)));
+            },
+            view,
+          );
     }

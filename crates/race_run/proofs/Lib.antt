@@ -5,3 +5,4 @@ pub mod SplitLemmas
 pub mod OpeningLemmas
 pub mod DealLemmas
 pub mod TurnLemmas
+pub mod OpenedLemmas

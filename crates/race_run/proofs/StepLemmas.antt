@@ -192,18 +192,17 @@ pub step_allows : (o : Opening) (slots id c : ℕ) (x : Caller) (t : Act) (me : 
     → Allows (λ s. IsRunning o s.words s.views) slots id me (place_in t) f (λ n. Acted me (number n))
 step_allows o slots id c x t me f number writes says opening held next s rule many at low =
     let acting : Acting o s.words s.views id c x t me.0 = record { rule = rule; at = at; opening = opening; held = held; next = next } in
-    let w = after o s.words s.views id c x t me.0 acting in
-    (
+    let w = after o s.words s.views id c x t me.0 acting in (
       w,
       keeps,
       tt,
       subst (λ (n : ℕ). IsRunning o (set s.words (place_in t) n) (set s.views id w)) (sym (writes (slice_index s.words (place_in t)))) (keeps_running o s.words s.views id c x t me.0 acting),
       λ p d y u opens holds nexts. (
         acted_so o p c d x y t u (number (slice_index s.words (place_in t))) me.0 w
-        (let both : Some o ≡ Some p = sym opening ∙ opens in cc)
-        (held_is (sym held ∙ holds))
-        (let both : Some t ≡ Some u = sym next ∙ ap (λ (h : ℕ × Caller). caller_next h.1) (held_is (sym held ∙ holds)) ∙ nexts in cc)
-        (subst (λ (n : ℕ). HasActed o c x n me.0 w) (sym (says (slice_index s.words (place_in t)))) (has_acted o s.words s.views id c x t me.0 acting)),
+            (let both : Some o ≡ Some p = sym opening ∙ opens in cc)
+            (held_is (sym held ∙ holds))
+            (let both : Some t ≡ Some u = sym next ∙ ap (λ (h : ℕ × Caller). caller_next h.1) (held_is (sym held ∙ holds)) ∙ nexts in cc)
+            (subst (λ (n : ℕ). HasActed o c x n me.0 w) (sym (says (slice_index s.words (place_in t)))) (has_acted o s.words s.views id c x t me.0 acting)),
         refl,
       ),
     )

@@ -36,3 +36,14 @@ pub record AreOpened (f : FieldData) (passes : List PassData) (callers : List Ca
   pub each : (c : ℕ) (p : PassData) (x : Caller) → slice_get passes c ≡ Some p
       → slice_get callers c ≡ Some x
       → IsPassOf f p c x × (p.view ≡ fresh_view f.opening (c, x))
+
+-- callers on a field, each with its pass
+pub record OpenedData : Type 0 where
+  pub field : FieldData
+  pub passes : List PassData
+  pub callers : List Caller
+
+pub record AreOn (f : FieldData) (passes : List PassData) (callers : List Caller) : Type 0 where
+  pub many : length passes ≡ length callers
+  pub each : (c : ℕ) (p : PassData) (x : Caller) → slice_get passes c ≡ Some p
+      → slice_get callers c ≡ Some x → IsPassOf f p c x

@@ -143,3 +143,20 @@ impl Field {
         }
     }
 }
+
+#[cfg(test)]
+impl Field {
+    /// The number of the shared words.
+    pub fn word_count(&self) -> usize {
+        self.table.word_count()
+    }
+
+    /// One of the shared words, or 0 beyond the last.
+    pub fn word(&self, place: usize) -> u64 {
+        if place < self.table.word_count() {
+            self.table.shared.peek(place)
+        } else {
+            0
+        }
+    }
+}

@@ -3,10 +3,14 @@
 #![tactic(auto)]
 
 mod field;
+mod opened;
 mod rule;
 mod step;
+#[cfg(test)]
+mod tests;
 mod view;
 
 pub use field::{Field, Pass};
+pub use opened::Opened;
 pub use rule::{Running, Start};
 pub use view::{Opening, View};

@@ -10,8 +10,7 @@ pub load-requires : goal.load-requires
 load-requires c =
     let r = c.requires.ready in
     let t : Act = act.Load c.in-Load.place in
-    let ready = ready_for c.args.shared.now.table_id.words r.0 (opening_of c.args.shared.now.key) c.args.seat.now.me.0 r.1 c.args.act t c.in-Load.is r.2 in
-    (
+    let ready = ready_for c.args.shared.now.table_id.words r.0 (opening_of c.args.shared.now.key) c.args.seat.now.me.0 r.1 c.args.act t c.in-Load.is r.2 in (
       c.requires.seat,
       ready_low c.args.shared.now.table_id.words (opening_of c.args.shared.now.key) c.args.seat.now.me.0 r.0 r.1 t ready,
       ready_allows c.args.shared.now.table_id.words c.args.shared.now.table_id.slots c.args.seat.now.id r.0 (opening_of c.args.shared.now.key) r.1 t c.args.seat.now.me (λ (n : ℕ). n) (λ (n : ℕ). n) ready (λ n. refl) (λ n. refl),
@@ -35,8 +34,7 @@ pub store-requires : goal.store-requires
 store-requires c =
     let r = c.requires.ready in
     let t : Act = act.Store c.in-Store.place c.in-Store.value in
-    let ready = ready_for c.args.shared.now.table_id.words r.0 (opening_of c.args.shared.now.key) c.args.seat.now.me.0 r.1 c.args.act t c.in-Store.is r.2 in
-    (
+    let ready = ready_for c.args.shared.now.table_id.words r.0 (opening_of c.args.shared.now.key) c.args.seat.now.me.0 r.1 c.args.act t c.in-Store.is r.2 in (
       c.requires.seat,
       ready_low c.args.shared.now.table_id.words (opening_of c.args.shared.now.key) c.args.seat.now.me.0 r.0 r.1 t ready,
       ready_allows c.args.shared.now.table_id.words c.args.shared.now.table_id.slots c.args.seat.now.id r.0 (opening_of c.args.shared.now.key) r.1 t c.args.seat.now.me (λ (n : ℕ). c.in-Store.value) (λ (n : ℕ). c.in-Store.value) ready (λ n. refl) (λ n. refl),
@@ -60,8 +58,7 @@ pub fetch_or-requires : goal.fetch_or-requires
 fetch_or-requires c =
     let r = c.requires.ready in
     let t : Act = act.Or c.in-Or.place c.in-Or.value in
-    let ready = ready_for c.args.shared.now.table_id.words r.0 (opening_of c.args.shared.now.key) c.args.seat.now.me.0 r.1 c.args.act t c.in-Or.is r.2 in
-    (
+    let ready = ready_for c.args.shared.now.table_id.words r.0 (opening_of c.args.shared.now.key) c.args.seat.now.me.0 r.1 c.args.act t c.in-Or.is r.2 in (
       c.requires.seat,
       ready_low c.args.shared.now.table_id.words (opening_of c.args.shared.now.key) c.args.seat.now.me.0 r.0 r.1 t ready,
       ready_allows c.args.shared.now.table_id.words c.args.shared.now.table_id.slots c.args.seat.now.id r.0 (opening_of c.args.shared.now.key) r.1 t c.args.seat.now.me (λ (n : ℕ). bit_or n c.in-Or.value) (λ (n : ℕ). n) ready (λ n. refl) (λ n. refl),
@@ -85,8 +82,7 @@ pub fetch_and-requires : goal.fetch_and-requires
 fetch_and-requires c =
     let r = c.requires.ready in
     let t : Act = act.And c.in-And.place c.in-And.value in
-    let ready = ready_for c.args.shared.now.table_id.words r.0 (opening_of c.args.shared.now.key) c.args.seat.now.me.0 r.1 c.args.act t c.in-And.is r.2 in
-    (
+    let ready = ready_for c.args.shared.now.table_id.words r.0 (opening_of c.args.shared.now.key) c.args.seat.now.me.0 r.1 c.args.act t c.in-And.is r.2 in (
       c.requires.seat,
       ready_low c.args.shared.now.table_id.words (opening_of c.args.shared.now.key) c.args.seat.now.me.0 r.0 r.1 t ready,
       ready_allows c.args.shared.now.table_id.words c.args.shared.now.table_id.slots c.args.seat.now.id r.0 (opening_of c.args.shared.now.key) r.1 t c.args.seat.now.me (λ (n : ℕ). bit_and n c.in-And.value) (λ (n : ℕ). n) ready (λ n. refl) (λ n. refl),

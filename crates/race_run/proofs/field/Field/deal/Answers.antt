@@ -24,12 +24,11 @@ loop-preserved c =
     let cut = c.split_seat-seat.ensures in
     let p : PassData = record { id = c.split_seat-seat.result.table_id; number = c.split_seat-seat.result.id; view = c.split_seat-seat.result.me.0 } in
     let count : length (c.loop.passes.items ++ p ∷ []) ≡ length c.loop.passes.items + 1 = length-append c.loop.passes.items (p ∷ []) in
-    let many : length c.push_reserved.new.self.items ≡ length (c.loop.passes.items ++ p ∷ []) = ap (λ (ps : List PassData). length ps) c.push_reserved.ensures.items in
-    (
+    let many : length c.push_reserved.new.self.items ≡ length (c.loop.passes.items ++ p ∷ []) = ap (λ (ps : List PassData). length ps) c.push_reserved.ensures.items in (
       cut.0 ∙ c.loop.invariant.0,
       cut.2 ∙ (λ i. (whole_less c.args.self.now held c.loop.counter c.loop.whole.me.0 is i, empty i)),
       ap (λ (ps : List PassData). map seen_of ps ++ map (fresh_seen c.args.self.now) (drop (c.loop.counter + 1) held)) c.push_reserved.ensures.items
-      ∙ dealt_more c.args.self.now held c.loop.counter c.loop.passes.items p c.loop.whole.me.0 within c.loop.invariant.2 is (cut.3 ∙ c.loop.invariant.0) (ap (λ (me : Me ℕ View). me.0) cut.4),
+          ∙ dealt_more c.args.self.now held c.loop.counter c.loop.passes.items p c.loop.whole.me.0 within c.loop.invariant.2 is (cut.3 ∙ c.loop.invariant.0) (ap (λ (me : Me ℕ View). me.0) cut.4),
       omega (arith, many, count, c.loop.invariant.3),
       omega (arith, c.loop.invariant.4, c.push_reserved.ensures.capacity),
     )

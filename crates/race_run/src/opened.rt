@@ -1,0 +1,90 @@
+ghost use Rattle.std.specs.Prelude.{◌≡◌, ◌<◌, length, IfOk};
+ghost use Rattle.scenario_text.specs.Spelling.{WellFormed};
+ghost use Rattle.table_build.specs.Built.{tables_of};
+ghost use Rattle.core_machine.specs.InnerPlay.{callers_from};
+ghost use Rattle.core_machine.specs.Scenarios.{IsAccepted, first_words, geometry_of};
+
+use crate::field::{Field, Pass};
+use core_machine::{Caller, callers, geometry_of};
+use scenario_text::Scenario;
+use std::alloc::{AllocError, Global};
+use std::marker::Model;
+use table_build::Tables;
+
+/// Callers on their field, each with its pass.
+#[derive(Drop)]
+pub struct Opened {
+    field: Field,
+    passes: Vec<Pass>,
+    callers: Vec<Caller>,
+}
+
+impl Model for Opened {
+    ghost use Rattle.race_run.specs.Passes.{OpenedData, AreOn};
+
+    ghost Value = { OpenedData };
+
+    ghost view = { λ o. record {
+      field = o.field;
+      passes = o.passes.items;
+      callers = o.callers.items;
+    } };
+
+    ghost invariant = { λ o. AreOn o.field o.passes.items o.callers.items };
+}
+
+impl Opened {
+    /// The callers of a scenario on its built tables, before their first act.
+    pub fn of_scenario(
+        alloc: Global,
+        scenario: &Scenario,
+        tables: &Tables,
+    ) -> Result<Opened, AllocError>
+        requires wellformed { WellFormed scenario.now }
+        requires accepted { IsAccepted scenario.now }
+        requires built { tables.now ≡ tables_of scenario.now.setup scenario.now.regions }
+        ensures callers { IfOk result (λ opened. opened.callers
+            ≡ callers_from (geometry_of scenario.now) 0 scenario.now.scripts) }
+        ensures opening { IfOk result (λ opened. opened.field.opening ≡ record {
+          geometry = geometry_of scenario.now;
+          words = first_words scenario.now;
+          callers = opened.callers;
+        }) }
+    {
+        let geometry = geometry_of(scenario, tables);
+        let _l1 = tables.l1();
+        let callers = callers(alloc, scenario, geometry)?;
+        let (field, passes) = Field::open(alloc, geometry, tables, &callers)?;
+        Ok(Opened {
+            field,
+            passes,
+            callers,
+        })
+    }
+
+    /// The callers, as they are now.
+    pub fn callers(&self) -> &[Caller]
+        ensures { result.now ≡ self.now.callers }
+    {
+        self.callers.as_slice()
+    }
+}
+
+#[cfg(test)]
+impl Opened {
+    /// A turn of a caller, by its pass.
+    pub fn turn(&mut self, caller: usize)
+        requires { caller < length self.old.callers }
+        ensures { length self.new.callers ≡ length self.old.callers }
+    {
+        self.field
+            .turn(&mut self.passes[caller], &mut self.callers[caller]);
+    }
+
+    /// The field.
+    pub fn field(&self) -> &Field
+        ensures { result.now ≡ self.now.field }
+    {
+        &self.field
+    }
+}
