@@ -1,16 +1,14 @@
 -- Accesses that are decided and whose generation isn't loaded again yet.
-use Rattle.std.specs.Prelude.{◌≡◌, ℕ, ◌≤◌, Bool, List, ◌∷◌, ◌++◌, Option, Some, None, MatchOption}
+use Rattle.std.specs.Prelude.{◌≡◌, ℕ, ◌≤◌, Bool, List, ◌∷◌, ◌++◌, Option, Some, MatchOption}
 use Rattle.gpi_values.specs.declared.gpi.Gpi.{Gpi}
 use Rattle.gpi_values.specs.declared.gpi.Space.{Space}
 use Rattle.gpt_descriptors.specs.declared.size.Reach.{Reach}
 use Rattle.gpt_descriptors.specs.Sizes.{tag_size_of}
 use Rattle.history.specs.declared.call.OldWalk.{OldWalk}
-use Rattle.history.specs.declared.call.Via.{Via}
-use Rattle.history.specs.declared.call.Via.TheVariants as via
 use Rattle.history.specs.declared.entry.Entry.{Entry}
 use Rattle.history.specs.declared.entry.Entry.TheVariants as entry
 use Rattle.history.specs.Counts.{count_around}
-use Rattle.history.specs.Stamps.{gpi_after, walked, WasOld}
+use Rattle.history.specs.Stamps.{gpi_after, WasOld}
 
 -- The access has its entry in the history and was decided by the map's GPI, after the generation of
 -- the region for a walk of this reach was loaded as lo. What is said of the entries before it stays

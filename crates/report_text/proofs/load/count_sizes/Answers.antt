@@ -8,7 +8,7 @@ use Rattle.report_text.proofs.load.count_sizes.Goals as goal
 use Rattle.report_text.proofs.load.count_sizes.Goals.{then-words-k, else-words-k}
 
 pub loop-k-init : goal.loop-k-init
-loop-k-init c = record { counted = no_sizes c.args.words.now; known = c.contiguous_size-size.ensures; }
+loop-k-init c = record { counted = no_sizes c.args.words.now; known = c.contiguous_size-size.ensures }
 
 pub count-requires-clause-two : goal.count-requires-clause-two
 count-requires-clause-two c =
@@ -32,14 +32,14 @@ loop-k-preserved c =
           let known = w.size-is ∙ (w.contiguous_size-size-then-words-k.ensures ∙ ap (λ (n : ℕ). size_in (l1_entry n)) (sym w.last-is)) in
           record {
             counted = c.count.ensures ∙ sizes_more c.args.words.now c.loop-k.k c.if-words-k.last c.if-words-k.size c.loop-k.counts c.loop-k-test.true
-              w.last-is known c.loop-k.invariant.counted;
+                w.last-is known c.loop-k.invariant.counted;
             known = known;
           }
       | else-words-k w ↦
           let known = w.size-is ∙ (c.loop-k.invariant.known ∙ ap (λ (n : ℕ). size_in (l1_entry n)) (sym w.last-is)) in
           record {
             counted = c.count.ensures ∙ sizes_more c.args.words.now c.loop-k.k c.if-words-k.last c.if-words-k.size c.loop-k.counts c.loop-k-test.true
-              (w.last-is ∙ sym w.if-words-k.false) known c.loop-k.invariant.counted;
+                (w.last-is ∙ sym w.if-words-k.false) known c.loop-k.invariant.counted;
             known = known;
           }
     ]
