@@ -1,7 +1,8 @@
 -- Callers on a field: opening gives them, and a turn of one keeps them all.
-use Rattle.std.proofs.Common.{◌≡◌, ◌≢◌, ℕ, List, length, set, Option, Some, inl, inr, sym, ap, ◌∙◌, subst}
+use Rattle.std.proofs.Common.{◌≡◌, ◌≢◌, ℕ, ◌<◌, List, length, get_or, set, Some, arith, inl, inr, sym, ap, ◌∙◌, subst}
 use Rattle.std.specs.Prelude.{slice_get}
 use Rattle.std.proofs.lemmas.List.{length-set}
+use Rattle.std.proofs.lemmas.Option.{slice_get-get_or}
 use Rattle.core_machine.specs.declared.caller.Caller.{Caller}
 use Rattle.core_machine.proofs.ListLemmas.{get_set}
 use Rattle.race_run.specs.Passes.{AreOn, AreOpened, FieldData, IsPassOf, PassData}
@@ -25,3 +26,7 @@ still_on f passes callers k p x are own =
             ]
           ];
     }
+
+pub own_at : (f : FieldData) (passes : List PassData) (callers : List Caller) (k : ℕ) (p : PassData) (x : Caller) → AreOn f passes callers → k < length callers → p ≡ get_or passes k p → x ≡ get_or callers k x → IsPassOf f p k x
+own_at f passes callers k p x are low at there =
+    are.each k p x (slice_get-get_or passes k p (omega (arith, low, are.many)) ∙ ap Some (sym at)) (slice_get-get_or callers k x low ∙ ap Some (sym there))

@@ -1,16 +1,15 @@
-ghost use Rattle.std.specs.Prelude.{IfOk};
 ghost use Rattle.scenario_text.specs.Spelling.{WellFormed};
 
 use crate::opened::Opened;
 use core_machine::play;
-use gpi_values::{Gpi, Listed};
+use gpi_values::Gpi;
 use gpt_descriptors::{Generations, Reach};
 use history::{Access, Answer, Outcome, Via};
 use region_plan::Plan;
 use scenario_text::{Scenario, Slot, parse};
 use std::alloc::{AllocError, Global};
 use std::test::Fail;
-use table_build::{Tables, build};
+use table_build::build;
 
 /// An agent delegates a granule, and a processor has three accesses at it.
 const DELEGATE: &str =
@@ -34,14 +33,23 @@ const SPLIT: &str = "gpt 1\nspace 4\nmax 2\nlocks 1\nfirst 0\nring 8\ntables 1\n
 region 0x0 0x40000000 granule nonsecure\nagent\ndelegate 0x200000 realm\nundelegate 0x200000 realm\n\
 agent\nundelegate 0x3ff000 realm\n";
 
-/// What a scenario is opened to, and what its schedule leaves in the plain machine.
-fn both(alloc: Global, text: &str) -> Option<(Opened, Scenario, Outcome)> {
-    let scenario = parse(alloc, text.as_bytes()).ok()?;
-    let plan = Plan::plan(alloc, scenario.regions.as_slice(), &scenario.setup).ok()?;
-    let tables = build(alloc, &plan, scenario.setup.base()).ok()?;
-    let opened = Opened::of_scenario(alloc, &scenario, &tables).ok()?;
-    let outcome = play(alloc, &scenario, tables).ok()?;
-    Some((opened, scenario, outcome))
+/// The callers of a scenario on their field, and what its schedule leaves in the plain machine.
+fn both(alloc: Global, scenario: &Scenario) -> Option<(Opened, Outcome)>
+    requires { WellFormed scenario.now }
+{
+    match Plan::plan(alloc, scenario.regions.as_slice(), &scenario.setup) {
+        Ok(plan) => match build(alloc, &plan, scenario.setup.base()) {
+            Ok(tables) => match Opened::of_scenario(alloc, scenario, &tables) {
+                Ok(opened) => match play(alloc, scenario, tables) {
+                    Ok(outcome) => Some((opened, outcome)),
+                    Err(_) => None,
+                },
+                Err(_) => None,
+            },
+            Err(_) => None,
+        },
+        Err(_) => None,
+    }
 }
 
 /// The turns of one line of a schedule, by the passes.
@@ -78,7 +86,10 @@ fn is_same(opened: &Opened, outcome: &Outcome) -> bool {
 
 /// Whether the passes and the plain machine leave the same after the schedule of this text.
 fn agrees(alloc: Global, text: &str) -> Option<(Opened, bool)> {
-    let (mut opened, scenario, outcome) = both(alloc, text)?;
+    let Ok(scenario) = parse(alloc, text.as_bytes()) else {
+        return None;
+    };
+    let (mut opened, outcome) = both(alloc, &scenario)?;
     for line in scenario.schedule.as_slice() {
         slot(&mut opened, *line);
     }
