@@ -47,3 +47,4 @@ pub mod CallerLaws
 pub mod StillLemmas
 pub mod LeaveLemmas
 pub mod StoreLemmas
+pub mod LookLemmas
