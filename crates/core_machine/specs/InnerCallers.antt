@@ -8,6 +8,7 @@ use Rattle.gpt_descriptors.specs.Places.{GeometryData}
 use Rattle.shared_words.specs.declared.act.Act.{Act}
 use Rattle.shared_words.specs.declared.act.StoreRun.{StoreRun}
 use Rattle.shared_words.specs.Acts.{store_in}
+use Rattle.shared_words.specs.Next.{old_by, words_after, MayBeMade}
 use Rattle.table_meaning.specs.Equation.{Holder}
 use Rattle.walk_cache.specs.declared.walk.Walk.{Walk}
 use Rattle.history.specs.declared.call.Task.{Task}
@@ -131,6 +132,21 @@ AreNext run x =
 abbrev pub StoresNext : Caller → Type 0
 StoresNext (caller.Agent a) = IsStoring a.stage
 StoresNext (caller.Cpu q) = ⊥
+
+-- ---- turns
+
+-- a caller and the words after its next act, and after its next n acts
+abbrev pub turned_once : Caller × List ℕ → Caller × List ℕ
+turned_once s =
+    (caller_took s.0 (old_by (caller_next s.0) s.1), words_after (caller_next s.0) s.1)
+
+abbrev pub turned : ℕ → Caller × List ℕ → Caller × List ℕ
+turned zero s = s
+turned (suc n) s = turned_once (turned n s)
+
+-- the next act may be made on these words
+abbrev pub MayTurn : Caller × List ℕ → Type 0
+MayTurn s = MayBeMade (caller_next s.0) s.1 × MayTake s.0 (old_by (caller_next s.0) s.1)
 
 -- ---- entries
 

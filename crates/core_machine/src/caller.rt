@@ -1,9 +1,9 @@
-ghost use Rattle.std.specs.Prelude.{◌≡◌, ◌+◌, ◌^◌, ◌<◌, ◌≤◌, IsSome, IsTrue, false};
+ghost use Rattle.std.specs.Prelude.{◌≡◌, ℕ, ◌+◌, ◌^◌, ◌<◌, ◌≤◌, IsSome, IsTrue, false};
 ghost use Rattle.shared_words.specs.Next.{old_by, words_after, MayBeMade};
 ghost use Rattle.delegate_ops.specs.InnerAgents.{IsStill};
 ghost use Rattle.core_machine.specs.InnerCallers.{caller_next, caller_took, caller_waits, MayTake};
 ghost use Rattle.core_machine.specs.InnerCallers.{caller_answers, caller_left};
-ghost use Rattle.core_machine.specs.InnerCallers.{caller_stored, AreNext, StoresNext};
+ghost use Rattle.core_machine.specs.InnerCallers.{caller_stored, AreNext, StoresNext, turned, MayTurn};
 
 use delegate_ops::Agent;
 use history::Answer;
@@ -57,6 +57,20 @@ impl Caller {
         match self {
             Caller::Agent(agent) => agent.turn(words),
             Caller::Cpu(cpu) => cpu.turn(words),
+        }
+    }
+
+    /// Of a processor that begins an access, its first acts, made on the words: all of the access
+    /// where a kept walk decides it. How many they were, at most this number; they may be none.
+    #[inline(always)]
+    pub fn look<W: Words>(&mut self, words: &mut W, most: u32) -> u32
+        requires { (n : ℕ) → n < most → MayTurn (turned n (self.old, W.words words.old)) }
+        ensures turned { (self.new, W.words words.new) ≡ turned result (self.old, W.words words.old) }
+        ensures most { result ≤ most }
+    {
+        match self {
+            Caller::Agent(_) => 0,
+            Caller::Cpu(cpu) => cpu.look(words, most),
         }
     }
 

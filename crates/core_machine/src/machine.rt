@@ -76,6 +76,18 @@ impl<W: Words> Machine<W> {
         self.step(caller);
     }
 
+    /// Turns of a processor that begins an access, at most this number: all of the access where a
+    /// kept walk decides it. How many they were; they may be none.
+    #[inline(always)]
+    pub fn look(&mut self, caller: usize, most: u32) -> u32
+        requires caller { caller < length self.old.callers }
+        requires invariant { HasInvariant self.old }
+        ensures turns { self.new ≡ after_turns self.old (replicate result caller) }
+        ensures most { result ≤ most }
+    {
+        self.callers[caller].look(&mut self.words, most)
+    }
+
     /// Whether the next act of a caller is a store of a splitting or of merging.
     #[tactic(auto, using(crate::proofs::StoreLemmas::stores_here))]
     pub fn stores(&self, caller: usize) -> bool

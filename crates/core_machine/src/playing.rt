@@ -20,7 +20,11 @@ impl<W: Words> Machine<W> {
         ensures still { result ≡ 0 → after_turn self.old caller ≡ self.old }
     {
         if self.stores(caller) {
-            self.run(caller, most)
+            return self.run(caller, most);
+        }
+        let looks = self.look(caller, most);
+        if looks > 0 {
+            looks
         } else if self.step(caller) {
             1
         } else {

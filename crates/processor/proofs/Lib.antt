@@ -4,3 +4,4 @@ pub mod ScriptLemmas
 pub mod FollowLemmas
 pub mod EntryLemmas
 pub mod RingLemmas
+pub mod LookLemmas

@@ -1,5 +1,5 @@
 -- A processor as plain data, its next act, and the processor after an act.
-use Rattle.std.specs.Prelude.{◌≡◌, ℕ, ◌+◌, ◌≤◌, ◌<◌, Bool, not, List, [], ◌∷◌, ◌++◌, length, drop, slice_get, Option, Some, None, IsTrue, is_some, true}
+use Rattle.std.specs.Prelude.{◌≡◌, ℕ, zero, suc, ◌+◌, ◌≤◌, ◌<◌, Bool, not, List, [], ◌∷◌, ◌++◌, length, drop, slice_get, Option, Some, None, IsTrue, is_some, true}
 use Rattle.std.specs.List.{All}
 use Rattle.std.specs.Option.{option_map}
 use Rattle.gpt_descriptors.specs.Sizes.{space_bytes}
@@ -14,7 +14,9 @@ use Rattle.history.specs.declared.call.Answer.{Answer}
 use Rattle.processor.specs.InnerProgress.{Stage}
 use Rattle.processor.specs.InnerProgress as stage
 use Rattle.processor.specs.Accesses.{IsAccess, block_answer}
-use Rattle.processor.specs.InnerProgress.{act_at, after_at, ring_after, answer_at}
+use Rattle.processor.specs.InnerProgress.{act_at, after_at, ring_after, answer_at, decided_stage}
+use Rattle.shared_words.specs.Next.{old_by, words_after, MayBeMade}
+use Rattle.history.specs.declared.call.Access.{Access}
 
 pub record CpuData : Type 0 where
   pub geometry : GeometryData
@@ -111,6 +113,22 @@ took_at q t old = q
 abbrev pub took_of : CpuData → ℕ → CpuData
 took_of q old = took_at q (task_of q) old
 
+-- a processor and the words after its next act, and after its next n acts
+abbrev pub turned_once : CpuData × List ℕ → CpuData × List ℕ
+turned_once s = (took_of s.0 (old_by (next_of s.0) s.1), words_after (next_of s.0) s.1)
+
+abbrev pub turned : ℕ → CpuData × List ℕ → CpuData × List ℕ
+turned zero s = s
+turned (suc n) s = turned_once (turned n s)
+
+-- a processor whose access under way is decided so
+abbrev pub decided : CpuData → Access → CpuData
+decided q access = goes_to q q.cache (decided_stage access)
+
+-- and before its last act
+abbrev pub leaving : CpuData → Access → CpuData
+leaving q access = goes_to q q.cache (stage.Leaving access)
+
 -- its duty word: 1 from the first act of an access to the last one
 abbrev pub duty_at : Stage → ℕ
 duty_at stage.Starting = 0
@@ -122,6 +140,10 @@ duty_at s = 1
 abbrev pub IsReadable : Stage → ℕ → Type 0
 IsReadable (stage.Walking k m) old = IsTrue (is_some (l1_entry old))
 IsReadable s old = Unit {0}
+
+-- the next act may be made on these words
+abbrev pub MayTurn : CpuData × List ℕ → Type 0
+MayTurn s = MayBeMade (next_of s.0) s.1 × IsReadable s.0.stage (old_by (next_of s.0) s.1)
 
 -- the task under way has acts
 abbrev pub HasActs : GeometryData → Option Task → Type 0

@@ -1,19 +1,26 @@
-ghost use Rattle.std.specs.Prelude.{◌≡◌, ◌-◌, ◌≤◌, ◌<◌, ◌++◌, IfOk, IfSome, IsSome, is_some};
+ghost use Rattle.std.specs.Prelude.{◌≡◌, ℕ, ◌-◌, ◌≤◌, ◌<◌, ◌++◌, IfOk, Some, IfSome, IsSome, is_some};
 ghost use Rattle.std.specs.Prelude.{IsTrue, not, length, drop, slice_get, vec_capacity};
 ghost use Rattle.std.specs.List.{All};
 ghost use Rattle.shared_words.specs.Next.{old_by, words_after, MayBeMade};
 ghost use Rattle.processor.specs.Accesses.{IsAccess, block_answer};
 ghost use Rattle.processor.specs.InnerCpus.{task_of, idle_answer, idle_answers, fresh, has_ended};
-ghost use Rattle.processor.specs.InnerCpus.{next_of, after_answer, took_of, HasActs, IsReadable};
+ghost use Rattle.processor.specs.InnerCpus.{next_of, after_answer, took_of, goes_to, HasActs, IsReadable};
+ghost use Rattle.processor.specs.InnerCpus.{turned, decided, leaving, MayTurn};
+ghost use Rattle.processor.specs.InnerProgress as stage;
+ghost use Rattle.processor.specs.InnerProgress.{no_generations};
+ghost use Rattle.history.specs.declared.call.Task.{Task as TheTask};
+ghost use Rattle.gpt_descriptors.specs.declared.size.Size.TheVariants as size;
 
-use crate::progress::Progress;
+use crate::progress::{Progress, hit_by};
+use alias_clean::touch;
 use gpi_values::{Gpi, Space, permits};
-use gpt_descriptors::Geometry;
-use history::{Access, Answer, Task, Via};
+use gpt_descriptors::{Geometry, tag_size};
+use history::{Access, Answer, OldWalk, Task, Via};
+use invalidate::{gen_load, off, on};
 use shared_words::{Act, Words};
 use std::alloc::{AllocError, Global};
 use std::marker::Model;
-use walk_cache::WalkCache;
+use walk_cache::{Walk, WalkCache};
 
 /// A processor: a list of accesses that it makes one after another, act by act, and its ring of kept
 /// walks.
@@ -198,6 +205,96 @@ impl Cpu {
             true
         } else {
             false
+        }
+    }
+
+    /// The access under way goes to the tables; this kept walk can't be used.
+    fn walks(&mut self, pa: u64, space: Space, missed: Option<OldWalk>)
+        requires { task_of self.old ≡ Some (TheTask.Look pa space) }
+        ensures { self.new ≡ goes_to self.old self.old.cache
+            (stage.Loading size.Two no_generations missed) }
+    {
+        self.progress.begin_walk(missed);
+    }
+
+    /// The touch of an access that is decided, where it is allowed. How many acts that was.
+    #[inline(always)]
+    fn touches<W: Words>(&self, pa: u64, space: Space, access: Access, words: &mut W) -> u32
+        requires task { task_of self.now ≡ Some (TheTask.Look pa space) }
+        requires may { MayTurn (decided self.now access, W.words words.old) }
+        ensures turned { (leaving self.now access, W.words words.new)
+            ≡ turned result (decided self.now access, W.words words.old) }
+        ensures most { result ≤ 1 }
+    {
+        if !access.allowed {
+            return 0;
+        }
+        match touch(&self.geometry, pa, space) {
+            Some(act) => {
+                words.apply(act);
+                1
+            }
+            None => 0,
+        }
+    }
+
+    /// The last acts of an access that is decided, and how many they were.
+    #[inline(always)]
+    fn leave<W: Words>(&mut self, pa: u64, space: Space, access: Access, words: &mut W) -> u32
+        requires task { task_of self.old ≡ Some (TheTask.Look pa space) }
+        requires may { (n : ℕ) → n < 2
+            → MayTurn (turned n (decided self.old access, W.words words.old)) }
+        ensures turned { (self.new, W.words words.new)
+            ≡ turned result (decided self.old access, W.words words.old) }
+        ensures most { result ≤ 2 }
+    {
+        let touches = self.touches(pa, space, access, words);
+        words.apply(off(&self.geometry, self.number));
+        self.end(Answer::Seen(access));
+        1 + touches
+    }
+
+    /// The first acts of an access, and how many they were: all of them where a kept walk decides
+    /// it, else those before the tables are walked.
+    #[inline(always)]
+    fn search<W: Words>(&mut self, pa: u64, space: Space, words: &mut W) -> u32
+        requires task { task_of self.old ≡ Some (TheTask.Look pa space) }
+        requires starting { self.old.stage ≡ stage.Starting }
+        requires may { (n : ℕ) → n < 4 → MayTurn (turned n (self.old, W.words words.old)) }
+        ensures turned { (self.new, W.words words.new)
+            ≡ turned result (self.old, W.words words.old) }
+        ensures most { result ≤ 4 }
+    {
+        words.apply(on(&self.geometry, self.number));
+        let Some(walk) = self.cache.newest(pa) else {
+            self.walks(pa, space, None);
+            return 1;
+        };
+        let Walk { reach, tag, .. } = walk;
+        let at = words.apply(gen_load(&self.geometry, tag_size(reach), pa));
+        if at != tag {
+            self.walks(pa, space, Some(OldWalk { reach, tag, at }));
+            return 2;
+        }
+        let access = hit_by(&self.geometry, pa, space, &walk);
+        2 + self.leave(pa, space, access, words)
+    }
+
+    /// A whole access that a kept walk decides, or the acts before the tables are walked, where an
+    /// access begins and at least four acts may be made; else nothing. How many acts they were.
+    #[inline(always)]
+    pub fn look<W: Words>(&mut self, words: &mut W, most: u32) -> u32
+        requires { (n : ℕ) → n < most → MayTurn (turned n (self.old, W.words words.old)) }
+        ensures turned { (self.new, W.words words.new)
+            ≡ turned result (self.old, W.words words.old) }
+        ensures most { result ≤ most }
+    {
+        if most < 4 || !self.progress.is_starting() {
+            return 0;
+        }
+        match self.task() {
+            Some(Task::Look(pa, space)) => self.search(pa, space, words),
+            _ => 0,
         }
     }
 

@@ -5,10 +5,11 @@ ghost use Rattle.gpt_descriptors.specs.Entries.{l1_entry};
 ghost use Rattle.shared_words.specs.Next.{words_after, MayBeMade};
 ghost use Rattle.walk_cache.specs.Rings.{newest_of};
 ghost use Rattle.history.specs.Stamps.{walked};
+ghost use Rattle.history.specs.declared.call.Via.TheVariants as via;
 ghost use Rattle.processor.specs.Accesses.{walk_of, walk_gpi, table_access};
 ghost use Rattle.processor.specs.InnerProgress.{stage_of, no_generations, act_at, next_in, old_in};
 ghost use Rattle.processor.specs.InnerProgress.{after_search, after_try, after_load, after_word};
-ghost use Rattle.processor.specs.InnerProgress.{decided_stage, after_at, ring_after};
+ghost use Rattle.processor.specs.InnerProgress.{decided_stage, after_decision, after_at, ring_after};
 ghost use Rattle.processor.specs.InnerProgress.{answer_at, is_last};
 ghost use Rattle.processor.specs.InnerProgress as stage;
 ghost use Rattle.processor.specs.InnerCpus.{IsReadable, IsAccessAt};
@@ -72,6 +73,32 @@ fn gpi_of(geometry: &Geometry, pa: u64, walk: &Walk) -> Gpi
     l1_field(walk.word, geometry.place_in_word(pa))
 }
 
+/// The access that this GPI decides.
+fn table_access(space: Space, gpi: Gpi, via: Via) -> Access
+    ensures { result ≡ table_access space gpi via }
+{
+    Access {
+        allowed: permits(gpi, space),
+        gpi,
+        level: 1,
+        via,
+    }
+}
+
+/// The access that this kept walk decides.
+pub fn hit_by(geometry: &Geometry, pa: u64, space: Space, walk: &Walk) -> Access
+    requires descriptor { IsSome (l1_entry walk.now.word) }
+    ensures { after_decision (stage.Trying walk.now) (walk_gpi geometry.now pa walk.now) space
+        (via.Hit walk.now.reach walk.now.tag) ≡ decided_stage result }
+{
+    let gpi = gpi_of(geometry, pa, walk);
+    let via = Via::Hit {
+        reach: walk.reach,
+        at: walk.tag,
+    };
+    table_access(space, gpi, via)
+}
+
 impl Progress {
     /// Before the first act of an access.
     pub fn new() -> Progress
@@ -101,6 +128,13 @@ impl Progress {
         ensures { stage_of self.new ≡ stage.Starting }
     {
         self.phase = Phase::Starting;
+    }
+
+    /// Whether the access has made no act yet.
+    pub fn is_starting(&self) -> bool
+        ensures { IsTrue result → stage_of self.now ≡ stage.Starting }
+    {
+        matches!(self.phase, Phase::Starting)
     }
 
     /// The answer with which the next act, the clearing of the duty word, ends the access.
@@ -134,7 +168,7 @@ impl Progress {
     }
 
     /// The tables have to be walked; this kept walk can't be used.
-    fn begin_walk(&mut self, missed: Option<OldWalk>)
+    pub fn begin_walk(&mut self, missed: Option<OldWalk>)
         ensures { stage_of self.new ≡ stage.Loading Size.Two no_generations missed }
     {
         self.missed = missed;
@@ -160,14 +194,8 @@ impl Progress {
     fn decide(&mut self, space: Space, gpi: Gpi, via: Via)
         ensures { stage_of self.new ≡ decided_stage (table_access space gpi via) }
     {
-        let allowed = permits(gpi, space);
-        self.access = Access {
-            allowed,
-            gpi,
-            level: 1,
-            via,
-        };
-        self.phase = if allowed {
+        self.access = table_access(space, gpi, via);
+        self.phase = if self.access.allowed {
             Phase::Touching
         } else {
             Phase::Leaving

@@ -27,6 +27,7 @@ impl Model for WalkCache {
 }
 
 /// The last of these walks that covers this byte address, if one does.
+#[inline(always)]
 fn newest_in(walks: &[Walk], pa: u64) -> Option<Walk>
     ensures { result ≡ newest_of walks.now pa }
 {
@@ -35,6 +36,7 @@ fn newest_in(walks: &[Walk], pa: u64) -> Option<Walk>
 
 /// The last of these walks, in two parts, that covers this byte address, if one does.
 #[tactic(auto, using(crate::proofs::RingLemmas::newest_of_parts))]
+#[inline(always)]
 fn newest_in_parts(older: &[Walk], newer: &[Walk], pa: u64) -> Option<Walk>
     ensures { result ≡ newest_of (older.now ++ newer.now) pa }
 {
@@ -58,6 +60,7 @@ impl WalkCache {
 
     /// The newest walk that covers this byte address, or `None` exactly where none covers it.
     #[tactic(auto, using(crate::proofs::RingLemmas::newest_facts))]
+    #[inline(always)]
     pub fn newest(&self, pa: u64) -> Option<Walk>
         ensures newest { result ≡ newest_of self.now.walks pa }
         ensures found { IfSome result (λ walk. IsLastCovering self.now.walks pa walk) }

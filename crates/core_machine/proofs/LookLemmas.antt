@@ -1,0 +1,59 @@
+-- Turns of one caller in a row, as its acts on the words.
+use Rattle.std.proofs.Common.{◌≡◌, ℕ, zero, suc, ◌+◌, ◌<◌, ◌∷◌, [], List, get_or, set, Some, length, replicate, refl, sym, ap, ◌∙◌, subst, arith, add-one}
+use Rattle.std.proofs.lemmas.Option.{get_or_from_slice_get}
+use Rattle.std.proofs.lemmas.List.{set-get_or, set-set, length-set}
+use Rattle.shared_words.specs.Next.{old_by, words_after}
+use Rattle.processor.specs.InnerCpus.{CpuData}
+use Rattle.processor.specs.InnerCpus as cpus
+use Rattle.core_machine.specs.declared.caller.Caller.{Caller}
+use Rattle.core_machine.specs.declared.caller.Caller.TheVariants as caller
+use Rattle.core_machine.specs.InnerCallers.{caller_next, caller_took, turned_once, turned, MayTurn}
+use Rattle.core_machine.specs.InnerMachine.{MachineData, HasInvariant, after_turn, after_turns}
+use Rattle.core_machine.proofs.ListLemmas.{get_set_same}
+use Rattle.core_machine.proofs.MachineLemmas.{after_turns-append, replicate_more, holds_after}
+use Rattle.core_machine.proofs.TurnLemmas.{may_turn}
+use Rattle.core_machine.proofs.TurnLemmas as turns
+
+-- ---- a processor
+
+abbrev as_caller : CpuData × List ℕ → Caller × List ℕ
+as_caller s = (caller.Cpu s.0, s.1)
+
+cpu_turned : (n : ℕ) (q : CpuData) (words : List ℕ) → turned n (caller.Cpu q, words) ≡ as_caller (cpus.turned n (q, words))
+cpu_turned zero q words = refl
+cpu_turned (suc n) q words = ap turned_once (cpu_turned n q words)
+
+pub cpu_may : (q : CpuData) (words : List ℕ) (most : ℕ) → ((n : ℕ) → n < most → MayTurn (turned n (caller.Cpu q, words))) → (n : ℕ) → n < most → cpus.MayTurn (cpus.turned n (q, words))
+cpu_may q words most may n low = subst MayTurn (cpu_turned n q words) (may n low)
+
+pub cpu_looks : (n : ℕ) (q r : CpuData) (words later : List ℕ) → ◌≡◌ {A = CpuData × List ℕ} (r, later) (cpus.turned n (q, words)) → ◌≡◌ {A = Caller × List ℕ} (caller.Cpu r, later) (turned n (caller.Cpu q, words))
+cpu_looks n q r words later so = ap as_caller so ∙ sym (cpu_turned n q words)
+
+-- ---- a machine
+
+abbrev pub turned_machine : MachineData → ℕ → Caller × List ℕ → MachineData
+turned_machine m c s = record { geometry = m.geometry; callers = set m.callers c s.0; words = s.1 }
+
+here_of : (m : MachineData) (c : ℕ) (s : Caller × List ℕ) → c < length m.callers → s.0 ≡ get_or (set m.callers c s.0) c s.0
+here_of m c s within = sym (get_or_from_slice_get (set m.callers c s.0) c s.0 s.0 (get_set_same m.callers c s.0 within))
+
+within_of : (m : MachineData) (c : ℕ) (s : Caller × List ℕ) → c < length m.callers → c < length (set m.callers c s.0)
+within_of m c s within = subst (λ (n : ℕ). c < n) (sym (length-set m.callers c s.0)) within
+
+-- after n acts of its caller it is that after n turns
+pub looked : (m : MachineData) (c : ℕ) (a : Caller) (n : ℕ) → HasInvariant m → c < length m.callers → a ≡ get_or m.callers c a → turned_machine m c (turned n (a, m.words)) ≡ after_turns m (replicate n c)
+looked m c a zero has within here =
+    ap (λ (callers : List Caller). record { geometry = m.geometry; callers = callers; words = m.words }) (ap (set m.callers c) here ∙ set-get_or m.callers c a)
+looked m c a (suc n) has within here =
+    let s = turned n (a, m.words) in
+    let before = looked m c a n has within here in
+    let after = turned_once s in
+    ap (λ (callers : List Caller). record { geometry = m.geometry; callers = callers; words = after.1 }) (sym (set-set m.callers c s.0 after.0))
+    ∙ turns.turned (turned_machine m c s) c s.0 after.0 after.1 (holds_after m (turned_machine m c s) (replicate n c) before has) (within_of m c s within) (here_of m c s within) refl refl
+    ∙ ap (λ (k : MachineData). after_turn k c) before
+    ∙ sym (ap (λ (k : ℕ). after_turns m (replicate k c)) (sym (add-one n)) ∙ ap (after_turns m) (replicate_more c n) ∙ after_turns-append m (replicate n c) (c ∷ []))
+
+pub may_look : (m : MachineData) (c : ℕ) (a : Caller) (n : ℕ) → HasInvariant m → c < length m.callers → a ≡ get_or m.callers c a → MayTurn (turned n (a, m.words))
+may_look m c a n has within here =
+    let s = turned n (a, m.words) in
+    may_turn (turned_machine m c s) c s.0 (holds_after m (turned_machine m c s) (replicate n c) (looked m c a n has within here) has) (within_of m c s within) (here_of m c s within)
