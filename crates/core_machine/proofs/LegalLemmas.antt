@@ -6,7 +6,7 @@ use Rattle.std.specs.Option.{option_map}
 use Rattle.std.proofs.lemmas.Bool.{cases_Bool, eq-eqb}
 use Rattle.std.proofs.lemmas.Option.{slice_get-map, slice_get_cases, slice_get_past}
 use Rattle.std.proofs.lemmas.List.Elements.{All-nil, All-cons, All-head, All-tail, All-append, All-weaker}
-use Rattle.core_machine.proofs.Names.{Gpi, granule_bytes, space_granules, GeometryData, Task, Answer, Entry, granule_in, caller_in, call_in, State, start, after_entry, granule_of, CallAllows, entries_by, call_entries, answered_entries, answer_at, Stage, AgentData, IsAgent, HasActs, IsStage, task_of, CallEvent, Caller, CpuData, IsCpu, caller_answers, caller_tasks, entries_at, IsPrefix, AreAllowed, IsHistoryOf}
+use Rattle.core_machine.proofs.Names.{Gpi, granule_bytes, space_granules, GeometryData, Task, Answer, Entry, granule_in, caller_in, call_in, State, start, after_entry, granule_of, CallAllows, entries_by, call_entries, answered_entries, answer_at, Stage, AgentData, IsAgent, HasActs, IsStage, task_of, CallEvent, Caller, CpuData, IsCpu, caller_answers, entries_at, IsPrefix, AreAllowed, IsHistoryOf}
 use Rattle.core_machine.proofs.Names.caller
 use Rattle.history.specs.Calls as calls
 use Rattle.history.specs.Calls.{IsUnderWay, task_at, Fits, IsLegalHistory, HasCalls}
@@ -21,7 +21,7 @@ use Rattle.processor.specs.InnerScript as cpus
 use Rattle.processor.specs.InnerProgress as progress
 use Rattle.processor.specs.InnerEntries.{entries_at as cpu_entries}
 use Rattle.processor.specs.InnerCpus.{task_of as cpu_task}
-use Rattle.core_machine.specs.InnerFits.{AreMade, HaveTasks, IsWalked}
+use Rattle.core_machine.specs.InnerFits.{AreMade, HaveTasks}
 use Rattle.core_machine.proofs.AccessLemmas.{access_there, access_under_way, accessed_each, no_entries}
 
 -- ---- an entry that its call allows

@@ -1,13 +1,12 @@
 -- Turns of one caller in a row, as its acts on the words.
-use Rattle.std.proofs.Common.{◌≡◌, ℕ, zero, suc, ◌+◌, ◌<◌, ◌∷◌, [], List, get_or, set, Some, length, replicate, refl, sym, ap, ◌∙◌, subst, arith, add-one}
+use Rattle.std.proofs.Common.{◌≡◌, ℕ, zero, suc, ◌<◌, ◌∷◌, [], List, get_or, set, length, replicate, refl, sym, ap, ◌∙◌, subst, add-one}
 use Rattle.std.proofs.lemmas.Option.{get_or_from_slice_get}
 use Rattle.std.proofs.lemmas.List.{set-get_or, set-set, length-set}
-use Rattle.shared_words.specs.Next.{old_by, words_after}
 use Rattle.processor.specs.InnerCpus.{CpuData}
 use Rattle.processor.specs.InnerCpus as cpus
 use Rattle.core_machine.specs.declared.caller.Caller.{Caller}
 use Rattle.core_machine.specs.declared.caller.Caller.TheVariants as caller
-use Rattle.core_machine.specs.InnerCallers.{caller_next, caller_took, turned_once, turned, MayTurn}
+use Rattle.core_machine.specs.InnerCallers.{turned_once, turned, MayTurn}
 use Rattle.core_machine.specs.InnerMachine.{MachineData, HasInvariant, after_turn, after_turns}
 use Rattle.core_machine.proofs.ListLemmas.{get_set_same}
 use Rattle.core_machine.proofs.MachineLemmas.{after_turns-append, replicate_more, holds_after}

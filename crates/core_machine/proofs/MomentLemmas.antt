@@ -1,11 +1,9 @@
 -- What holds of callers and words at any moment, with no schedule: from the first act on, and what it says of the answers.
-use Rattle.std.proofs.Common.{◌≡◌, ℕ, List, [], ◌∷◌, ◌++◌, map, length, Option, Some, refl, sym, ap, ◌∙◌, subst}
-use Rattle.std.specs.Prelude.{slice_get}
-use Rattle.std.specs.List.{All}
+use Rattle.std.proofs.Common.{ℕ, List, [], map, Option, sym, ap, ◌∙◌, subst}
 use Rattle.std.specs.Option.{option_map}
 use Rattle.std.proofs.lemmas.List.{length-map}
 use Rattle.std.proofs.lemmas.Option.{slice_get-map, slice_get_within, get_or_from_slice_get}
-use Rattle.core_machine.proofs.Names.{GeometryData, CallEvent, AgentData, CpuData, Caller, caller_tasks, HoldsIn, Scene}
+use Rattle.core_machine.proofs.Names.{GeometryData, AgentData, CpuData, Caller, caller_tasks}
 use Rattle.core_machine.proofs.Names.caller
 use Rattle.delegate_ops.specs.InnerScript.{HasWalked}
 use Rattle.delegate_ops.proofs.ScriptLemmas.{fresh_walked, step_walks}
@@ -14,7 +12,7 @@ use Rattle.processor.specs.InnerScript as cpus
 use Rattle.processor.proofs.ScriptLemmas.{fresh_walked as cpu_fresh_walked, step_walks as cpu_step_walks}
 use Rattle.processor.proofs.CpuLemmas.{took_is_cpu, took_keeps}
 use Rattle.core_machine.specs.InnerCallers.{IsFresh}
-use Rattle.core_machine.specs.InnerFits.{ActsGoOn, AreMade, FreshAreMade, HaveTasks, IsWalked, ScenesBegin, ScenesFit}
+use Rattle.core_machine.specs.InnerFits.{ActsGoOn, FreshAreMade, HaveTasks, IsWalked, ScenesBegin, ScenesFit}
 use Rattle.core_machine.proofs.LawLemmas.{took_leaves}
 use Rattle.core_machine.proofs.OpeningLemmas.{opening_invariant}
 use Rattle.core_machine.proofs.RunLemmas.{fits_history}

@@ -1,5 +1,5 @@
 -- A pass for each caller: the loop that deals them, and what they are once all are dealt.
-use Rattle.std.proofs.Common.{◌≡◌, ℕ, zero, suc, ◌+◌, ◌<◌, ◌≤◌, List, [], ◌∷◌, ◌++◌, map, length, take, drop, get_or, Option, Some, append-nil, append_assoc, refl, sym, ap, ◌∙◌, subst, arith}
+use Rattle.std.proofs.Common.{◌≡◌, ℕ, ◌+◌, ◌<◌, ◌≤◌, List, [], ◌∷◌, ◌++◌, map, length, take, drop, get_or, Option, Some, append-nil, append_assoc, sym, ap, ◌∙◌, subst, arith}
 use Rattle.std.specs.Prelude.{slice_get}
 use Rattle.std.specs.List.{All}
 use Rattle.std.specs.Option.{option_map}
@@ -7,11 +7,10 @@ use Rattle.std.proofs.lemmas.List.{drop-drop, drop_more, drop_all, length-map, m
 use Rattle.std.proofs.lemmas.Option.{slice_get-map, slice_get_within, get_or_from_slice_get}
 use Rattle.atomic_table.specs.Seated.{TableId}
 use Rattle.core_machine.specs.declared.caller.Caller.{Caller}
-use Rattle.core_machine.specs.InnerCallers.{IsCallerOf, IsFresh}
+use Rattle.core_machine.specs.InnerCallers.{IsFresh}
 use Rattle.processor.proofs.CpuLemmas.{some_mapped}
-use Rattle.race_run.specs.declared.view.Opening.{Opening}
 use Rattle.race_run.specs.declared.view.View.{View}
-use Rattle.race_run.specs.Passes.{AreOpened, FieldData, IsPassOf, PassData, fresh_view}
+use Rattle.race_run.specs.Passes.{AreOpened, FieldData, PassData, fresh_view}
 use Rattle.race_run.specs.InnerRule.{fresh_seen, numbered, seen_of, whole, with_first, with_held, without_first}
 use Rattle.race_run.proofs.OpeningLemmas.{fresh_is_of, numbered_at, numbered_count}
 

@@ -1,26 +1,23 @@
 -- The rule before the first act: callers that have made none fit the words, and one view has them all.
-use Rattle.std.proofs.Common.{◌≡◌, ◌⊎◌, ℕ, zero, suc, ◌+◌, ◌<◌, List, [], ◌∷◌, ◌++◌, map, length, Option, Some, None, refl, sym, ap, ◌∙◌, subst, inl, inr, arith}
+use Rattle.std.proofs.Common.{◌≡◌, ℕ, zero, suc, ◌+◌, List, [], ◌∷◌, length, Some, refl, sym, ap, ◌∙◌, subst, inr, arith}
 use Rattle.std.specs.Prelude.{slice_get}
 use Rattle.std.specs.List.{All}
 use Rattle.std.proofs.lemmas.List.Elements.{All-nil}
-use Rattle.std.proofs.lemmas.Option.{slice_get_within, get_or_from_slice_get}
 use mathlib.Core.Option.{some, some-injective, some-ne-none}
 use lib.ListN.{get_elem?}
 use Rattle.gpi_values.specs.declared.gpi.Gpi.{Gpi}
 use Rattle.gpt_descriptors.specs.Places.{GeometryData}
-use Rattle.history.specs.declared.entry.Entry.{Entry}
-use Rattle.history.specs.Calls.{entries_by}
 use Rattle.delegate_ops.specs.InnerAgents.{AgentData}
 use Rattle.processor.specs.InnerCpus.{CpuData}
 use Rattle.core_machine.specs.declared.caller.Caller.{Caller}
 use Rattle.core_machine.specs.declared.caller.Caller.TheVariants as caller
-use Rattle.core_machine.specs.InnerCallers.{IsCallerOf, IsFresh, own_of}
+use Rattle.core_machine.specs.InnerCallers.{IsCallerOf, IsFresh}
 use Rattle.core_machine.specs.InnerInvariant.{NumbersDiffer}
 use Rattle.core_machine.specs.InnerOpening.{AreStarting}
 use Rattle.core_machine.proofs.MomentLemmas.{fresh_are_made, scenes_begin}
 use Rattle.race_run.specs.declared.view.Opening.{Opening}
 use Rattle.race_run.specs.declared.view.View.{View}
-use Rattle.race_run.specs.InnerRule.{Begins, HeldOnce, IsHeld, IsRunning, IsSpent, KnowsOf, numbered, role_of, whole}
+use Rattle.race_run.specs.InnerRule.{Begins, HeldOnce, IsRunning, KnowsOf, numbered, whole}
 
 -- ---- callers with their numbers
 

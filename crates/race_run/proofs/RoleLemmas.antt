@@ -1,24 +1,20 @@
 -- Callers and those that a field was opened with: an act keeps their tasks and numbers, so that what one waits for was given.
-use Rattle.std.proofs.Common.{◌≡◌, ◌≢◌, ◌⊎◌, ℕ, zero, suc, List, [], ◌∷◌, length, map, set, Option, Some, None, true, false, refl, sym, ap, ◌∙◌, subst, inl, inr}
+use Rattle.std.proofs.Common.{◌≡◌, ℕ, zero, suc, List, [], ◌∷◌, length, map, set, Option, Some, None, true, sym, ap, ◌∙◌, subst, inl, inr}
 use Rattle.std.specs.Prelude.{slice_get}
 use Rattle.std.specs.Option.{option_map}
 use Rattle.std.proofs.lemmas.Option.{slice_get-map}
 use Rattle.bit_locks.specs.Locks.{lock_number}
 use Rattle.gpt_descriptors.specs.Places.{GeometryData}
-use Rattle.invalidate.specs.Barrier.{BarrierData}
 use Rattle.shared_words.specs.declared.act.Act.{Act}
 use Rattle.shared_words.specs.Acts.{answer_of}
 use Rattle.history.specs.declared.call.Task.{Task}
-use Rattle.delegate_ops.specs.declared.stage.Change.{Change}
-use Rattle.delegate_ops.specs.declared.stage.Kept.{Kept}
-use Rattle.delegate_ops.specs.InnerStages as stage
 use Rattle.delegate_ops.specs.Deciding.{address_of}
-use Rattle.delegate_ops.specs.InnerAgents.{AgentData, task_of}
+use Rattle.delegate_ops.specs.InnerAgents.{AgentData}
 use Rattle.processor.specs.InnerCpus.{CpuData, idle_answer}
 use Rattle.processor.proofs.CpuLemmas.{some_mapped}
 use Rattle.core_machine.specs.declared.caller.Caller.{Caller}
 use Rattle.core_machine.specs.declared.caller.Caller.TheVariants as caller
-use Rattle.core_machine.specs.InnerCallers.{caller_next, caller_tasks, caller_took, caller_waits, number_by}
+use Rattle.core_machine.specs.InnerCallers.{caller_next, caller_took, caller_waits}
 use Rattle.core_machine.specs.InnerCallerLaws.{IsHeldByAnother, IsInAccess}
 use Rattle.core_machine.specs.InnerInvariant.{HoldsIn}
 use Rattle.core_machine.specs.InnerScene.{Scene}

@@ -1,15 +1,15 @@
 -- Dealing passes: a view cut in two keeps the rule, and each caller comes to a pass of its own.
-use Rattle.std.proofs.Common.{◌≡◌, ◌≢◌, ◌⊎◌, ℕ, zero, suc, ◌+◌, ◌<◌, List, [], ◌∷◌, ◌++◌, length, take, drop, set, Option, Some, None, refl, sym, ap, ◌∙◌, subst, inl, inr, arith}
+use Rattle.std.proofs.Common.{◌≡◌, ◌≢◌, ◌⊎◌, ℕ, zero, suc, List, [], ◌∷◌, ◌++◌, length, take, drop, set, Some, refl, sym, ap, ◌∙◌, subst, inl, inr, arith}
 use Rattle.std.specs.Prelude.{slice_get}
 use mathlib.Core.Option.{some, some-injective, some-ne-none}
 use lib.ListN.{get_elem?}
-use Rattle.atomic_table.specs.Table.{State, Splits}
+use Rattle.atomic_table.specs.Table.{Splits}
 use Rattle.atomic_table.proofs.Lists.{at_set}
 use Rattle.history.specs.declared.entry.Entry.{Entry}
 use Rattle.core_machine.specs.declared.caller.Caller.{Caller}
 use Rattle.race_run.specs.declared.view.Opening.{Opening}
 use Rattle.race_run.specs.declared.view.View.{View}
-use Rattle.race_run.specs.InnerRule.{HeldOnce, IsHeld, IsRunning, IsSpent, KnowsOf, with_first, without_first}
+use Rattle.race_run.specs.InnerRule.{HeldOnce, IsRunning, IsSpent, KnowsOf, with_first, without_first}
 
 abbrev Held : Type 0
 Held = ℕ × Caller

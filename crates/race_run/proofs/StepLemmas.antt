@@ -1,25 +1,22 @@
 -- One act of a caller, as a step of its pass, keeps the rule of the shared words: one use of the law of the core.
-use Rattle.std.proofs.Common.{◌≡◌, ◌≢◌, ◌⊎◌, ℕ, ◌<◌, List, [], ◌∷◌, ◌++◌, map, length, set, Option, Some, None, true, append-nil, refl, sym, ap, ◌∙◌, subst, inl, inr}
+use Rattle.std.proofs.Common.{◌≡◌, ◌≢◌, ◌⊎◌, ℕ, ◌<◌, List, [], ◌∷◌, ◌++◌, map, length, set, Option, Some, None, append-nil, refl, sym, ap, ◌∙◌, subst, inl, inr}
 use Rattle.std.specs.Prelude.{slice_get, slice_index}
 use Rattle.std.specs.Option.{option_map}
-use Rattle.std.specs.List.{All}
 use Rattle.std.proofs.lemmas.Option.{slice_get-map}
 use Rattle.std.proofs.lemmas.List.Elements.{All-weaker}
 use mathlib.Core.Option.{some}
 use lib.ListN.{get_elem?}
-use Rattle.atomic_table.specs.Table.{State, Me, Allows, keeps}
+use Rattle.atomic_table.specs.Table.{Me, Allows, keeps}
 use Rattle.atomic_table.proofs.Lists.{at_set}
 use Rattle.gpi_values.specs.declared.gpi.Gpi.{Gpi}
-use Rattle.gpt_descriptors.specs.Places.{GeometryData}
 use Rattle.shared_words.specs.declared.act.Act.{Act}
 use Rattle.shared_words.specs.Acts.{place_in, written, said, after_act, answer_of}
 use Rattle.history.specs.declared.call.Task.{Task}
-use Rattle.history.specs.declared.call.Answer.{Answer}
 use Rattle.history.specs.declared.entry.Entry.{Entry}
 use Rattle.history.specs.Calls.{entries_by}
 use Rattle.core_machine.specs.declared.caller.Caller.{Caller}
 use Rattle.core_machine.specs.Facts.{FitsHistory}
-use Rattle.core_machine.specs.InnerCallers.{MayTake, caller_answers, caller_next, caller_tasks, caller_took, caller_waits, made_by, number_by, own_of}
+use Rattle.core_machine.specs.InnerCallers.{MayTake, caller_answers, caller_next, caller_tasks, caller_took, made_by, own_of}
 use Rattle.core_machine.specs.InnerInvariant.{HoldsIn}
 use Rattle.core_machine.specs.InnerScene.{Scene}
 use Rattle.core_machine.specs.InnerOpening.{AreStarting}

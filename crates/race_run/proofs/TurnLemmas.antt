@@ -1,9 +1,9 @@
 -- A turn by a pass: its caller is ready, and the pass is still one of its field after it.
-use Rattle.std.proofs.Common.{◌≡◌, ℕ, List, [], ◌∷◌, Option, Some, sym, ap, ◌∙◌, subst}
+use Rattle.std.proofs.Common.{◌≡◌, ℕ, Some, sym, ap, ◌∙◌, subst}
 use Rattle.gpt_descriptors.specs.Places.{word_count}
 use Rattle.shared_words.specs.declared.act.Act.{Act}
 use Rattle.core_machine.specs.declared.caller.Caller.{Caller}
-use Rattle.core_machine.specs.InnerCallers.{IsCallerOf, caller_next, caller_took}
+use Rattle.core_machine.specs.InnerCallers.{caller_next, caller_took}
 use Rattle.core_machine.proofs.CallerLaws.{acts_keep}
 use Rattle.race_run.specs.declared.view.View.{View}
 use Rattle.race_run.specs.Passes.{FieldData, IsPassOf, PassData}

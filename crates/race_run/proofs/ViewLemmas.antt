@@ -1,10 +1,9 @@
 -- Views: what each of them knows stays so while others act, and no caller is held twice.
-use Rattle.std.proofs.Common.{◌≡◌, ◌≢◌, ◌⊎◌, ℕ, zero, suc, ◌+◌, ◌<◌, List, [], ◌∷◌, ◌++◌, length, take, drop, set, Option, Some, None, refl, sym, ap, ◌∙◌, subst, inl, inr, arith}
+use Rattle.std.proofs.Common.{◌≡◌, ◌≢◌, ℕ, zero, suc, List, [], ◌∷◌, ◌++◌, set, Option, Some, None, refl, sym, ap, ◌∙◌, subst, inl, inr}
 use Rattle.std.specs.Prelude.{slice_get}
-use Rattle.std.specs.List.{All}
 use Rattle.std.proofs.lemmas.List.{append_assoc}
 use Rattle.std.proofs.lemmas.List.Elements.{All-weaker}
-use mathlib.Core.Option.{some, some-injective, some-ne-none}
+use mathlib.Core.Option.{some}
 use lib.ListN.{get_elem?}
 use Rattle.atomic_table.proofs.Lists.{at_set}
 use Rattle.history.specs.declared.entry.Entry.{Entry}
@@ -12,7 +11,7 @@ use Rattle.core_machine.specs.declared.caller.Caller.{Caller}
 use Rattle.core_machine.proofs.ListLemmas.{get_set_other}
 use Rattle.race_run.specs.declared.view.Opening.{Opening}
 use Rattle.race_run.specs.declared.view.View.{View}
-use Rattle.race_run.specs.InnerRule.{Begins, HeldOnce, IsHeld, IsSpent, KnowsOf, with_first, without_first}
+use Rattle.race_run.specs.InnerRule.{Begins, HeldOnce, KnowsOf}
 
 -- ---- prefixes
 

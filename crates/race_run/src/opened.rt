@@ -68,19 +68,20 @@ impl Opened {
     {
         self.callers.as_slice()
     }
-}
 
-#[cfg(test)]
-impl Opened {
     /// A turn of a caller, by its pass.
-    pub fn turn(&mut self, caller: usize)
+    pub(crate) fn turn(&mut self, caller: usize)
         requires { caller < length self.old.callers }
-        ensures { length self.new.callers ≡ length self.old.callers }
+        ensures field { self.new.field ≡ self.old.field }
+        ensures many { length self.new.callers ≡ length self.old.callers }
     {
         self.field
             .turn(&mut self.passes[caller], &mut self.callers[caller]);
     }
+}
 
+#[cfg(test)]
+impl Opened {
     /// The field.
     pub fn field(&self) -> &Field
         ensures { result.now ≡ self.now.field }

@@ -1,5 +1,4 @@
-use Rattle.std.proofs.Common.{◌≡◌, ◌<◌, ℕ, List, length, replicate, sym, ap, ◌∙◌, subst}
-use Rattle.core_machine.specs.declared.caller.Caller.{Caller}
+use Rattle.std.proofs.Common.{◌<◌, length, replicate, sym, ap, ◌∙◌, subst}
 use Rattle.core_machine.specs.InnerMachine.{MachineData, HasInvariant, after_turns}
 use Rattle.core_machine.proofs.LookLemmas.{turned_machine, looked, may_look}
 use Rattle.core_machine.proofs.machine.Machine.look.Goals as goal

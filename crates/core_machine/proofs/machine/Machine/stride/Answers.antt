@@ -1,4 +1,4 @@
-use Rattle.std.proofs.Common.{◌<◌, ◌≡◌, length, sym, ap, ◌∙◌, subst, arith}
+use Rattle.std.proofs.Common.{◌<◌, length, sym, ap, ◌∙◌, subst, arith}
 use Rattle.core_machine.specs.InnerMachine.{MachineData, HasInvariant, after_turn}
 use Rattle.core_machine.proofs.StoreLemmas.{run_some, no_turns}
 use Rattle.core_machine.proofs.machine.Machine.stride.Goals as goal

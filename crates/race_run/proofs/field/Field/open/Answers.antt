@@ -1,6 +1,5 @@
-use Rattle.std.proofs.Common.{◌≡◌, ℕ, List, map, sym, ap, ◌∙◌, subst}
+use Rattle.std.proofs.Common.{◌≡◌, List, map, sym, ap, ◌∙◌, subst}
 use Rattle.std.specs.List.{All}
-use Rattle.gpi_values.specs.declared.gpi.Gpi.{Gpi}
 use Rattle.shared_words.specs.Start.{start_words}
 use Rattle.core_machine.specs.declared.caller.Caller.{Caller}
 use Rattle.core_machine.specs.InnerCallers.{IsFresh}

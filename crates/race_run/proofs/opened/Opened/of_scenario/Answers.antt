@@ -1,4 +1,4 @@
-use Rattle.std.proofs.Common.{◌≡◌, refl, sym, ap, ◌∙◌}
+use Rattle.std.proofs.Common.{refl}
 use Rattle.shared_words.specs.Start.{start_words}
 use Rattle.core_machine.specs.Scenarios.{first_map}
 use Rattle.core_machine.proofs.PlayLemmas.{fresh_at, starts_at}
