@@ -11,11 +11,10 @@ use Rattle.core_machine.specs.InnerCallers.{IsFresh}
 use Rattle.processor.proofs.CpuLemmas.{some_mapped}
 use Rattle.race_run.specs.declared.view.View.{View}
 use Rattle.race_run.specs.Passes.{AreOpened, FieldData, PassData, fresh_view}
+use Rattle.race_run.specs.Turns.{IsMoment}
 use Rattle.race_run.specs.InnerRule.{fresh_seen, numbered, seen_of, whole, with_first, with_held, without_first}
+use Rattle.race_run.proofs.SplitLemmas.{Held}
 use Rattle.race_run.proofs.OpeningLemmas.{fresh_is_of, numbered_at, numbered_count}
-
-abbrev Held : Type 0
-Held = ℕ × Caller
 
 -- ---- one more pass
 
@@ -57,8 +56,9 @@ pass_at f items callers c p x so at there =
     let same : held.0.1 ≡ x = (let both : Some held.0.1 ≡ Some x = sym own.1 ∙ there in cc) in
     sym held.2 ∙ (λ i. fresh_seen f (number i, same i))
 
-pub are_opened : (f : FieldData) (items : List PassData) (callers : List Caller) → map seen_of items ≡ map (fresh_seen f) (numbered 0 callers) → All (IsFresh f.opening.geometry) callers → AreOpened f items callers
-are_opened f items callers so is =
+pub are_opened : (f : FieldData) (items : List PassData) (callers : List Caller) → map seen_of items ≡ map (fresh_seen f) (numbered 0 callers) → All (IsFresh f.opening.geometry) callers
+    → ((c : ℕ) (x : Caller) → slice_get callers c ≡ Some x → IsMoment f.opening c x []) → AreOpened f items callers
+are_opened f items callers so is moments =
     record {
       many = sym (length-map items seen_of) ∙ ap (λ (l : List (TableId × View)). length l) so ∙ length-map (numbered 0 callers) (fresh_seen f) ∙ numbered_count 0 callers;
       each = λ c p x at there.
@@ -69,6 +69,7 @@ are_opened f items callers so is =
               opening = ap (λ (v : View). v.opening) view;
               held = ap (λ (v : View). v.held) view;
               made = fresh_is_of f.opening.geometry x (subst (IsFresh f.opening.geometry) (get_or_from_slice_get callers c x x there) (is c x (slice_get_within callers c x there)));
+              moment = subst (IsMoment f.opening c x) (sym (ap (λ (v : View). v.seen) view)) (moments c x there);
             },
             view,
           );

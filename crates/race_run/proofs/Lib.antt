@@ -2,7 +2,9 @@ pub mod RoleLemmas
 pub mod ViewLemmas
 pub mod StepLemmas
 pub mod SplitLemmas
+pub mod JoinLemmas
 pub mod OpeningLemmas
 pub mod DealLemmas
 pub mod TurnLemmas
 pub mod OpenedLemmas
+pub mod CloseLemmas

@@ -1,8 +1,10 @@
 -- The rule before the first act: callers that have made none fit the words, and one view has them all.
-use Rattle.std.proofs.Common.{◌≡◌, ℕ, zero, suc, ◌+◌, List, [], ◌∷◌, length, Some, refl, sym, ap, ◌∙◌, subst, inr, arith}
+use Rattle.std.proofs.Common.{◌≡◌, ℕ, zero, suc, ◌+◌, List, [], ◌∷◌, length, map, Option, Some, refl, sym, ap, ◌∙◌, subst, inr, arith}
 use Rattle.std.specs.Prelude.{slice_get}
 use Rattle.std.specs.List.{All}
+use Rattle.std.specs.Option.{option_map}
 use Rattle.std.proofs.lemmas.List.Elements.{All-nil}
+use Rattle.std.proofs.lemmas.Option.{slice_get-map}
 use mathlib.Core.Option.{some, some-injective, some-ne-none}
 use lib.ListN.{get_elem?}
 use Rattle.gpi_values.specs.declared.gpi.Gpi.{Gpi}
@@ -11,12 +13,13 @@ use Rattle.delegate_ops.specs.InnerAgents.{AgentData}
 use Rattle.processor.specs.InnerCpus.{CpuData}
 use Rattle.core_machine.specs.declared.caller.Caller.{Caller}
 use Rattle.core_machine.specs.declared.caller.Caller.TheVariants as caller
-use Rattle.core_machine.specs.InnerCallers.{IsCallerOf, IsFresh}
+use Rattle.core_machine.specs.InnerCallers.{IsCallerOf, IsFresh, caller_answers}
 use Rattle.core_machine.specs.InnerInvariant.{NumbersDiffer}
 use Rattle.core_machine.specs.InnerOpening.{AreStarting}
-use Rattle.core_machine.proofs.MomentLemmas.{fresh_are_made, scenes_begin}
+use Rattle.core_machine.proofs.MomentLemmas.{fresh_are_made, scenes_begin, scenes_fit}
 use Rattle.race_run.specs.declared.view.Opening.{Opening}
 use Rattle.race_run.specs.declared.view.View.{View}
+use Rattle.race_run.specs.Turns.{IsMoment}
 use Rattle.race_run.specs.InnerRule.{Begins, HeldOnce, IsRunning, KnowsOf, numbered, whole}
 
 -- ---- callers with their numbers
@@ -75,3 +78,19 @@ opening_runs o words same starting is differ =
           }));
       once = once_whole o;
     })
+
+-- ---- the first moment
+
+pub opening_moment : (o : Opening) (c : ℕ) (x : Caller) → ((first : List Gpi) × AreStarting o.geometry first o.words) → All (IsFresh o.geometry) o.callers → NumbersDiffer o.callers → slice_get o.callers c ≡ Some x → IsMoment o c x []
+opening_moment o c x starting is differ at =
+    record {
+      answers = map caller_answers o.callers;
+      words = o.words;
+      starting = starting;
+      own = slice_get-map caller_answers o.callers c ∙ ap (λ (b : Option Caller). option_map caller_answers b) at;
+      entries = (scenes_begin o.geometry starting.0 o.callers o.words is differ starting.1).history.own c x at;
+      fits = λ first starts.
+          scenes_fit o.geometry (record { first = first; words = o.words; callers = o.callers; history = [] })
+          (scenes_begin o.geometry first o.callers o.words is differ starts)
+          (fresh_are_made o.geometry o.callers is);
+    }

@@ -1,6 +1,6 @@
 -- Callers and those that a field was opened with: an act keeps their tasks and numbers, so that what one waits for was given.
-use Rattle.std.proofs.Common.{◌≡◌, ℕ, zero, suc, List, [], ◌∷◌, length, map, set, Option, Some, None, true, sym, ap, ◌∙◌, subst, inl, inr}
-use Rattle.std.specs.Prelude.{slice_get}
+use Rattle.std.proofs.Common.{◌≡◌, ℕ, zero, suc, List, [], ◌∷◌, length, map, set, Option, Some, None, true, refl, sym, ap, ◌∙◌, subst, inl, inr}
+use Rattle.std.specs.Prelude.{slice_get, option_and_then}
 use Rattle.std.specs.Option.{option_map}
 use Rattle.std.proofs.lemmas.Option.{slice_get-map}
 use Rattle.bit_locks.specs.Locks.{lock_number}
@@ -9,7 +9,8 @@ use Rattle.shared_words.specs.declared.act.Act.{Act}
 use Rattle.shared_words.specs.Acts.{answer_of}
 use Rattle.history.specs.declared.call.Task.{Task}
 use Rattle.delegate_ops.specs.Deciding.{address_of}
-use Rattle.delegate_ops.specs.InnerAgents.{AgentData}
+use Rattle.delegate_ops.specs.Deciding as agents
+use Rattle.delegate_ops.specs.InnerAgents.{AgentData, HasActs, act_at, task_of}
 use Rattle.processor.specs.InnerCpus.{CpuData, idle_answer}
 use Rattle.processor.proofs.CpuLemmas.{some_mapped}
 use Rattle.core_machine.specs.declared.caller.Caller.{Caller}
@@ -52,11 +53,17 @@ cpu_given o d (caller.Cpu r) q at same =
 
 -- ---- waiting
 
-held_given : (o : Opening) (callers : List Caller) (c : ℕ) (t : Task) → map role_of callers ≡ map role_of o.callers → IsHeldByAnother o.geometry callers c t
+-- what is made of a task has a task
+task_there : {X : Type 0} (f : Task → Option X) (task : Option Task) (x : X) → option_and_then f task ≡ Some x → (t : Task) × (task ≡ Some t)
+task_there f None x there = absurd cc
+task_there f (Some t) x there = (t, refl)
+
+held_given : (o : Opening) (callers : List Caller) (c : ℕ) (t : Task) → map role_of callers ≡ map role_of o.callers → AreMade o.geometry callers → IsHeldByAnother o.geometry callers c t
     → HasCallOn o c (lock_number o.geometry.setup (address_of t))
-held_given o callers c t same held =
+held_given o callers c t same made held =
     let there = given_at callers o.callers held.number (caller.Agent held.agent) same held.at in
     let agent = agent_given o held.number there.0 held.agent there.1 there.2 in
+    let is = made held.number (caller.Agent held.agent) held.at in
     record {
       number = held.number;
       other = held.other;
@@ -65,6 +72,7 @@ held_given o callers c t same held =
       call = length held.agent.answers;
       task = held.task;
       asked = subst (λ (tasks : List Task). slice_get tasks (length held.agent.answers) ≡ Some held.task) (sym agent.2) held.under_way;
+      acts = subst (λ (g : GeometryData). agents.idle_answer g held.task ≡ None) is.0 (subst (HasActs held.agent.geometry) held.under_way is.1.acts);
       block = held.block;
     }
 
@@ -86,8 +94,12 @@ access_given o callers p same made access =
 pub cause_given : (o : Opening) (s : Scene) (c : ℕ) (x : Caller) (t : Act) → HoldsIn o.geometry s → AreMade o.geometry s.callers → map role_of s.callers ≡ map role_of o.callers → slice_get s.callers c ≡ Some x
     → caller_next x ≡ Some t → caller_waits (caller_took x (answer_of t s.words)) ≡ true → HasCause o c x
 cause_given o s c (caller.Cpu q) t holds made same at next waits = absurd cc
-cause_given o s c (caller.Agent a) t holds made same at next waits = λ task under_way.
-    elim (waits_have_causes o.geometry s c a task t holds at under_way next waits) [
-      | inl held ↦ inl (held.0, held_given o s.callers c task same held.1)
-      | inr busy ↦ inr (busy.0, busy.1, busy.2, busy.3, access_given o s.callers busy.1.passed same made busy.4)
-    ]
+cause_given o s c (caller.Agent a) t holds made same at next waits =
+    let there = task_there (act_at a.geometry a.stage) (task_of a) t next in (
+      there.0,
+      there.1,
+      elim (waits_have_causes o.geometry s c a there.0 t holds at there.1 next waits) [
+        | inl held ↦ inl (held.0, held_given o s.callers c there.0 same made held.1)
+        | inr busy ↦ inr (busy.0, busy.1, busy.2, busy.3, access_given o s.callers busy.1.passed same made busy.4)
+      ],
+    )

@@ -11,7 +11,7 @@ use Rattle.race_run.specs.declared.view.Opening.{Opening}
 use Rattle.race_run.specs.declared.view.View.{View}
 use Rattle.race_run.specs.InnerRule.{HeldOnce, IsRunning, IsSpent, KnowsOf, with_first, without_first}
 
-abbrev Held : Type 0
+abbrev pub Held : Type 0
 Held = ℕ × Caller
 
 -- ---- the callers of the two parts
@@ -27,7 +27,7 @@ first_at (b ∷ held) (suc p) a at = absurd cc
 
 -- ---- the views after a cut
 
-last_or : (views : List View) (w u : View) (j : ℕ) → get_elem? (views ++ w ∷ []) j ≡ some u → (get_elem? views j ≡ some u) ⊎ ((j ≡ length views) × (w ≡ u))
+pub last_or : (views : List View) (w u : View) (j : ℕ) → get_elem? (views ++ w ∷ []) j ≡ some u → (get_elem? views j ≡ some u) ⊎ ((j ≡ length views) × (w ≡ u))
 last_or [] w u zero at = inr (refl, some-injective w u at)
 last_or [] w u (suc j) at = absurd (some-ne-none u (sym at))
 last_or (v ∷ views) w u zero at = inl at
@@ -63,7 +63,7 @@ knows_first : (o : Opening) (callers : List Caller) (h : List Entry) (v : View) 
 knows_first o callers h v knows =
     record { opening = knows.opening; seen = knows.seen; told = knows.told; held = λ p a at. knows.held 0 a (first_at v.held p a at).1 }
 
-abbrev FitsIn : Opening → List Caller → List Entry → View → Type 0
+abbrev pub FitsIn : Opening → List Caller → List Entry → View → Type 0
 FitsIn o callers h v = IsSpent v ⊎ KnowsOf o callers h v
 
 fits_rest : (o : Opening) (callers : List Caller) (h : List Entry) (v : View) → FitsIn o callers h v → FitsIn o callers h (without_first v)

@@ -3,6 +3,7 @@ use Rattle.std.proofs.Common.{◌≡◌, ◌≢◌, ◌⊎◌, ℕ, ◌<◌, Lis
 use Rattle.std.specs.Prelude.{slice_get, slice_index}
 use Rattle.std.specs.Option.{option_map}
 use Rattle.std.proofs.lemmas.Option.{slice_get-map}
+use Rattle.std.proofs.lemmas.List.{map-set}
 use Rattle.std.proofs.lemmas.List.Elements.{All-weaker}
 use mathlib.Core.Option.{some}
 use lib.ListN.{get_elem?}
@@ -41,7 +42,7 @@ tasks_of_roles : (callers : List Caller) → map (λ (r : List Task × Option �
 tasks_of_roles [] = refl
 tasks_of_roles (x ∷ callers) = ap (λ (l : List (List Task)). caller_tasks x ∷ l) (tasks_of_roles callers)
 
-same_tasks : (callers given : List Caller) → map role_of callers ≡ map role_of given → map caller_tasks callers ≡ map caller_tasks given
+pub same_tasks : (callers given : List Caller) → map role_of callers ≡ map role_of given → map caller_tasks callers ≡ map caller_tasks given
 same_tasks callers given same = sym (tasks_of_roles callers) ∙ ap (map (λ (r : List Task × Option ℕ). r.0)) same ∙ tasks_of_roles given
 
 took_role : (x : Caller) (old : ℕ) → role_of (caller_took x old) ≡ role_of x
@@ -110,10 +111,28 @@ module _ (o : Opening) (words : List ℕ) (views : List View) (id c : ℕ) (x : 
       ap (entries_by c) sees_all
       ∙ (acted acting.rule.starting.0 acting.rule.starting.1).2.history.own c (caller_took x old) (get_set_here callers c x (caller_took x old) mine.0)
 
-  moment : IsMoment o c (caller_took x old) after.seen
+  -- what the act finds
+  found_seen : v.seen ++ knows.seen.0 ≡ history
+  found_seen = sym knows.seen.1
+
+  abbrev found : IsMoment o c x (v.seen ++ knows.seen.0)
+  found = record {
+    answers = map caller_answers callers;
+    words = words;
+    starting = acting.rule.starting;
+    own = slice_get-map caller_answers callers c ∙ ap (λ (b : Option Caller). option_map caller_answers b) mine.0;
+    entries = ap (entries_by c) found_seen ∙ (acting.rule.holds acting.rule.starting.0 acting.rule.starting.1).history.own c x mine.0;
+    fits = λ first starting.
+        subst (λ (h : List Entry). FitsHistory o.geometry first (map caller_tasks o.callers) (map caller_answers callers) words h) (sym found_seen)
+        (subst (λ (tasks : List (List Task)). FitsHistory o.geometry first tasks (map caller_answers callers) words history) (same_tasks callers o.callers acting.rule.given)
+        (scenes_fit o.geometry (scene first) (acting.rule.holds first starting) acting.rule.made));
+  }
+
+  abbrev moment : IsMoment o c (caller_took x old) after.seen
   moment = record {
     answers = map caller_answers new_callers;
     words = after_act t words;
+    starting = acting.rule.starting;
     own = slice_get-map caller_answers new_callers c ∙ ap (λ (b : Option Caller). option_map caller_answers b) (get_set_here callers c x (caller_took x old) mine.0);
     entries = own_entries;
     fits = λ first starting.
@@ -124,10 +143,16 @@ module _ (o : Opening) (words : List ℕ) (views : List View) (id c : ℕ) (x : 
 
   pub has_acted : HasActed o c x old v after
   has_acted = record {
+    next = t;
+    is_next = acting.next;
     between = knows.seen.0;
     view = refl;
     readable = may;
+    found = found;
     moment = moment;
+    answered = refl;
+    wrote = refl;
+    others = map-set caller_answers callers c (caller_took x old);
     waits = λ waits.
         cause_given o (scene acting.rule.starting.0) c x t (acting.rule.holds acting.rule.starting.0 acting.rule.starting.1) acting.rule.made acting.rule.given mine.0 acting.next waits;
   }

@@ -28,4 +28,10 @@ passes_on f g p q r c old x y field pass id acted becomes own =
       opening = ap (λ (v : View). v.opening) acted.view ∙ mine.opening;
       held = ap (λ (v : View). v.held) acted.view;
       made = (acts_keep f.opening.geometry x old mine.made).0;
+      moment = acted.moment;
     }))
+
+-- the act that a caller's next was
+pub acted_by : (f g : FieldData) (p q r : PassData) (c old : ℕ) (x : Caller) → f ≡ g → q ≡ p → HasActed f.opening c x old q.view r.view → HasActed g.opening c x old p.view r.view
+acted_by f g p q r c old x field pass acted =
+    subst (λ (a : FieldData). HasActed a.opening c x old p.view r.view) field (subst (λ (b : PassData). HasActed f.opening c x old b.view r.view) pass acted)

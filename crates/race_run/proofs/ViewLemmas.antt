@@ -50,7 +50,7 @@ one_held (suc p) c d x y (a ∷ held) is at =
     absurd (let both : Some (d, y) ≡ None = sym at ∙ ap (λ (l : List (ℕ × Caller)). slice_get l (suc p)) is in cc)
 
 -- where a caller of some view is held in the views before, of which one has changed
-abbrev Before : List View → ℕ → ℕ → ℕ → Type 0
+abbrev pub Before : List View → ℕ → ℕ → ℕ → Type 0
 Before views i p d = (v : View) × (y : Caller) × (get_elem? views i ≡ some v) × (slice_get v.held p ≡ Some (d, y))
 
 held_before : (views : List View) (id c : ℕ) (x x' : Caller) (v w : View) → get_elem? views id ≡ some v → v.held ≡ (c, x) ∷ [] → w.held ≡ (c, x') ∷ []
@@ -63,8 +63,12 @@ held_before views id c x x' v w at held new i p d u y there holds =
       | inr other ↦ (u, y, other.1, holds)
     ]
 
-pub once_after : (views : List View) (id c : ℕ) (x x' : Caller) (v w : View) → get_elem? views id ≡ some v → v.held ≡ (c, x) ∷ [] → w.held ≡ (c, x') ∷ [] → HeldOnce views → HeldOnce (set views id w)
-once_after views id c x x' v w at held new once i j p q d u t y z first second holds also =
-    let a = held_before views id c x x' v w at held new i p d u y first holds in
-    let b = held_before views id c x x' v w at held new j q d t z second also in
+-- where each caller is held as it was before, none is held twice
+pub once_before : (views after : List View) → ((i p d : ℕ) (u : View) (y : Caller) → get_elem? after i ≡ some u → slice_get u.held p ≡ Some (d, y) → Before views i p d) → HeldOnce views → HeldOnce after
+once_before views after were once i j p q d u t y z first second holds also =
+    let a = were i p d u y first holds in
+    let b = were j q d t z second also in
     once i j p q d a.0 b.0 a.1 b.1 a.2 b.2 a.3 b.3
+
+pub once_after : (views : List View) (id c : ℕ) (x x' : Caller) (v w : View) → get_elem? views id ≡ some v → v.held ≡ (c, x) ∷ [] → w.held ≡ (c, x') ∷ [] → HeldOnce views → HeldOnce (set views id w)
+once_after views id c x x' v w at held new once = once_before views (set views id w) (held_before views id c x x' v w at held new) once

@@ -59,6 +59,39 @@ seen_of p = (p.id, p.view)
 abbrev pub fresh_seen : FieldData → ℕ × Caller → TableId × View
 fresh_seen f held = (f.id, fresh_view f.opening held)
 
+-- a pass without callers that has seen this much
+abbrev pub nobody : Opening → List Entry → View
+nobody o seen = record { opening = Some o; seen = seen; told = []; held = [] }
+
+-- of two beginnings of one history, the longer one
+abbrev pub longer : List Entry → List Entry → List Entry
+longer [] b = b
+longer (e ∷ a) [] = e ∷ a
+longer (e ∷ a) (f ∷ b) = e ∷ longer a b
+
+-- two passes made one, and what is left of the second
+abbrev pub joined : View → View → View
+joined v w = record {
+  opening = v.opening;
+  seen = longer v.seen w.seen;
+  told = v.told ++ w.seen ∷ w.told;
+  held = v.held ++ w.held;
+}
+
+abbrev pub spent : View
+spent = record { opening = None; seen = []; told = []; held = [] }
+
+-- each is a pass of this field
+abbrev pub AreOf : FieldData → List PassData → Type 0
+AreOf f passes =
+    (i : ℕ) (p : PassData) → slice_get passes i ≡ Some p
+    → (p.id ≡ f.id) × (p.view.opening ≡ Some f.opening)
+
+-- a pass after others were joined into it, the last of them first
+abbrev pub joined_back : View → List PassData → View
+joined_back v [] = v
+joined_back v (p ∷ passes) = joined (joined_back v passes) p.view
+
 -- ---- the rule
 
 -- the history begins with these entries
@@ -118,6 +151,12 @@ pub record IsReady (words : ℕ) (o : Opening) (v : View) (c : ℕ) (x : Caller)
   pub held : v.held ≡ (c, x) ∷ []
   pub made : IsCallerOf o.geometry x
   pub next : caller_next x ≡ Some t
+
+-- a pass that comes to the field has no callers, and is of its opening
+abbrev pub Entered : Me ℕ View → Me ℕ View → Type 0
+Entered me after =
+    (o : Opening) → me.0.opening ≡ Some o
+    → (seen : List Entry) × (after ≡ (nobody o seen, []))
 
 -- where a pass has one caller, which has a next act, that act was made
 abbrev pub Acted : Me ℕ View → ℕ → Me ℕ View → Type 0

@@ -5,6 +5,7 @@ use Rattle.core_machine.specs.declared.caller.Caller.{Caller}
 use Rattle.core_machine.specs.InnerCallers.{IsCallerOf}
 use Rattle.race_run.specs.declared.view.Opening.{Opening}
 use Rattle.race_run.specs.declared.view.View.{View}
+use Rattle.race_run.specs.Turns.{IsMoment}
 
 -- which shared words it has, and what it was opened with
 pub record FieldData : Type 0 where
@@ -21,13 +22,14 @@ pub record PassData : Type 0 where
 abbrev pub fresh_view : Opening → ℕ × Caller → View
 fresh_view o held = record { opening = Some o; seen = []; told = []; held = held ∷ [] }
 
--- the pass is one that this field's opening made, or what its turns have made of it, and this is its one
--- caller, made with the field's geometry
+-- the pass is one that this field's opening made, or what its turns have made of it; this is its one
+-- caller, made with the field's geometry; and what the pass has seen is the history of a moment
 pub record IsPassOf (f : FieldData) (p : PassData) (c : ℕ) (x : Caller) : Type 0 where
   pub field : p.id ≡ f.id
   pub opening : p.view.opening ≡ Some f.opening
   pub held : p.view.held ≡ (c, x) ∷ []
   pub made : IsCallerOf f.opening.geometry x
+  pub moment : IsMoment f.opening c x p.view.seen
 
 -- a pass for each caller, in their order, before their first act
 pub record AreOpened (f : FieldData) (passes : List PassData) (callers : List Caller)

@@ -1,7 +1,7 @@
 ghost use Rattle.std.specs.Prelude.{◌≡◌, ◌≤◌, ℕ, [], List, length, map, Some, None, IfOk, vec_capacity};
 ghost use Rattle.std.specs.List.{All};
 ghost use Rattle.gpi_values.specs.declared.gpi.Gpi.{Gpi};
-ghost use Rattle.gpt_descriptors.specs.Places.{IsGeometry, l1_words};
+ghost use Rattle.gpt_descriptors.specs.Places.{IsGeometry, l1_words, word_count};
 ghost use Rattle.shared_words.specs.declared.act.Act.{Act as TheAct};
 ghost use Rattle.shared_words.specs.Start.{start_words};
 ghost use Rattle.core_machine.specs.declared.caller.Caller.{Caller as TheCaller};
@@ -18,7 +18,7 @@ use crate::view::View;
 use atomic_table::{Seat, Table};
 use core_machine::Caller;
 use gpt_descriptors::Geometry;
-use shared_words::PlainWords;
+use shared_words::{Act, PlainWords};
 use std::alloc::{AllocError, Global};
 use std::marker::Model;
 use std::snapshot::Snapshot;
@@ -28,7 +28,7 @@ use table_build::Tables;
 /// consistent.
 #[derive(Drop)]
 pub struct Field {
-    table: Table<u64, View, Start, Running, Global>,
+    pub(crate) table: Table<u64, View, Start, Running, Global>,
 }
 
 impl Model for Field {
@@ -44,14 +44,14 @@ impl Model for Field {
       opening = opening_of f.table.shared.key;
     } };
 
-    ghost invariant = { λ f. f.table.shared.table_id.words
-        ≡ word_count f.table.shared.key.geometry };
+    ghost invariant = { λ f. (f.table.shared.table_id.words
+        ≡ word_count f.table.shared.key.geometry) × (f.table.shared.table_id.slots ≡ 0) };
 }
 
 /// What one caller, or several that were joined, know of the shared words. It has no bytes.
 #[derive(Drop)]
 pub struct Pass {
-    seat: Seat<u64, View>,
+    pub(crate) seat: Seat<u64, View>,
 }
 
 impl Model for Pass {
@@ -73,7 +73,8 @@ impl Field {
     /// The shared words of callers before their first act, and a pass for each of them, in their order. The
     /// geometry has the setup and the level 0 words of the tables, whose level 1 words are the canonical ones of
     /// the map that they mean. The callers were made with this geometry and have made no act, and no two
-    /// processors among them have one number.
+    /// processors among them have one number. AllocError where the memory for the words or the passes isn't
+    /// found.
     pub fn open(
         alloc: Global,
         geometry: Geometry,
@@ -106,6 +107,13 @@ impl Field {
         Ok((field, passes))
     }
 
+    /// The number of the shared words.
+    pub fn word_count(&self) -> usize
+        ensures { result ≡ word_count self.now.opening.geometry }
+    {
+        self.table.word_count()
+    }
+
     /// A pass for each caller, out of the seat that has them all.
     fn deal(&self, whole: Seat<u64, View>, count: usize, passes: &mut Vec<Pass>)
         requires seat { (whole.table_id ≡ self.now.id) × (whole.me ≡ (whole_view self.now.opening, [])) }
@@ -123,8 +131,9 @@ impl Field {
     }
 
     /// The next act of a caller as one step on the shared words; nothing where it has none. It takes no
-    /// memory and waits for nobody. The pass is one that this field's `open` made, or what its turns have
-    /// made of it, and the caller is the one in its view.
+    /// memory and waits for nobody: where the act finds a lock held, or a processor inside an access, the
+    /// caller's next act is the same again. The pass is one that this field's `open` made, possibly after
+    /// turns, and the caller is the one in its view.
     pub fn turn(&self, pass: &mut Pass, caller: &mut Caller)
         requires pass { (c : ℕ) × IsPassOf self.now pass.old c caller.old }
         ensures pass { (pass.new.id ≡ pass.old.id) × (pass.new.number ≡ pass.old.number) }
@@ -138,19 +147,29 @@ impl Field {
             → IsPassOf self.now pass.new c caller.new }
     {
         if let Some(act) = caller.next() {
-            let old = act_on(&self.table.shared, &mut pass.seat, act);
-            caller.took(old);
+            self.make(pass, caller, act);
         }
+    }
+
+    /// The act that is a caller's next.
+    #[inline(always)]
+    pub(crate) fn make(&self, pass: &mut Pass, caller: &mut Caller, act: Act)
+        requires pass { (c : ℕ) × IsPassOf self.now pass.old c caller.old }
+        requires next { caller_next caller.old ≡ Some act }
+        ensures pass { (pass.new.id ≡ pass.old.id) × (pass.new.number ≡ pass.old.number) }
+        ensures acted { (c : ℕ) → IsPassOf self.now pass.old c caller.old
+            → (old : ℕ) × (caller.new ≡ caller_took caller.old old)
+            × HasActed self.now.opening c caller.old old pass.old.view pass.new.view }
+        ensures again { (c : ℕ) → IsPassOf self.now pass.old c caller.old
+            → IsPassOf self.now pass.new c caller.new }
+    {
+        let old = act_on(&self.table.shared, &mut pass.seat, act);
+        caller.took(old);
     }
 }
 
 #[cfg(test)]
 impl Field {
-    /// The number of the shared words.
-    pub fn word_count(&self) -> usize {
-        self.table.word_count()
-    }
-
     /// One of the shared words, or 0 beyond the last.
     pub fn word(&self, place: usize) -> u64 {
         if place < self.table.word_count() {

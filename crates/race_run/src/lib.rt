@@ -2,15 +2,21 @@
 //! acts one at a time through a shared reference, waiting for nobody.
 #![tactic(auto)]
 
+mod closing;
 mod field;
+mod gate;
 mod opened;
+
 mod rule;
+mod running;
 mod step;
 #[cfg(test)]
 mod tests;
 mod view;
 
 pub use field::{Field, Pass};
+pub use gate::{Gate, OpenGate};
 pub use opened::Opened;
+
 pub use rule::{Running, Start};
 pub use view::{Opening, View};

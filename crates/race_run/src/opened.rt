@@ -3,6 +3,7 @@ ghost use Rattle.scenario_text.specs.Spelling.{WellFormed};
 ghost use Rattle.table_build.specs.Built.{tables_of};
 ghost use Rattle.core_machine.specs.InnerPlay.{callers_from};
 ghost use Rattle.core_machine.specs.Scenarios.{IsAccepted, first_words, geometry_of};
+ghost use Rattle.race_run.specs.Passes.{AreOn, AreOpened};
 
 use crate::field::{Field, Pass};
 use core_machine::{Caller, callers, geometry_of};
@@ -34,7 +35,8 @@ impl Model for Opened {
 }
 
 impl Opened {
-    /// The callers of a scenario on its built tables, before their first act.
+    /// The callers of a scenario on its built tables, before their first act, each with its pass. AllocError
+    /// where the memory for the callers, the shared words or the passes isn't found.
     pub fn of_scenario(
         alloc: Global,
         scenario: &Scenario,
@@ -50,9 +52,12 @@ impl Opened {
           words = first_words scenario.now;
           callers = opened.callers;
         }) }
+        ensures passes { IfOk result
+            (λ opened. AreOpened opened.field opened.passes opened.callers) }
     {
         let geometry = geometry_of(scenario, tables);
-        let _l1 = tables.l1();
+        // The number of level 1 words is that of the geometry.
+        let _words = tables.l1();
         let callers = callers(alloc, scenario, geometry)?;
         let (field, passes) = Field::open(alloc, geometry, tables, &callers)?;
         Ok(Opened {
@@ -67,6 +72,16 @@ impl Opened {
         ensures { result.now ≡ self.now.callers }
     {
         self.callers.as_slice()
+    }
+
+    /// The field, the passes and the callers, in their order.
+    pub fn into_parts(self) -> (Field, Vec<Pass>, Vec<Caller>)
+        ensures field { result.0 ≡ self.field }
+        ensures passes { result.1.items ≡ self.passes }
+        ensures callers { result.2.items ≡ self.callers }
+        ensures on { AreOn result.0 result.1.items result.2.items }
+    {
+        (self.field, self.passes, self.callers)
     }
 
     /// A turn of a caller, by its pass.

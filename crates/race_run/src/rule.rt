@@ -1,5 +1,5 @@
 use crate::view::View;
-use atomic_table::{Play, Split, TableRule};
+use atomic_table::{Join, Play, Split, TableRule};
 use core_machine::Caller;
 use gpt_descriptors::Geometry;
 use shared_words::PlainWords;
@@ -44,4 +44,36 @@ impl Play<u64, View> for NextAct {
     ghost use Rattle.race_run.specs.InnerRule.{Acted};
 
     ghost then = { λ _ me n after. Acted me n after };
+}
+
+/// A pass that comes to the field to take in the others.
+pub(crate) struct Entering;
+
+impl Play<u64, View> for Entering {
+    ghost use Rattle.race_run.specs.InnerRule.{Entered};
+
+    ghost then = { λ _ me n after. Entered me after };
+}
+
+/// Two passes made one.
+pub(crate) struct BothPasses;
+
+impl Join<View> for BothPasses {
+    ghost use Rattle.race_run.specs.InnerRule.{joined, spent};
+
+    ghost both = { joined };
+
+    ghost spent = { spent };
+}
+
+/// What a pass has seen goes to a pass without callers.
+pub(crate) struct WhatIsSeen;
+
+impl Split<View> for WhatIsSeen {
+    ghost use Rattle.std.specs.Prelude.{[]};
+    ghost use Rattle.race_run.specs.InnerRule.{with_held};
+
+    ghost left = { λ v. v };
+
+    ghost right = { λ v. with_held v [] };
 }

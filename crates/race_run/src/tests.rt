@@ -170,7 +170,7 @@ fn ordered(
 
 #[test]
 fn every_order_of_acts_leaves_what_the_machine_leaves(rt: HostRuntime) -> Result<(), Fail> {
-    // The callers, the turns before, and where the orders of ten turns begin: at the locks, at the change
+    // The callers, the turns before, and where the orders of six turns begin: at the locks, at the change
     // and the raises, at the barrier, in a splitting.
     let table = [
         (AGENTS, ""),

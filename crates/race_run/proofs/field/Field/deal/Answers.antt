@@ -13,7 +13,7 @@ pub split_seat-seat-requires : goal.split_seat-seat-requires
 split_seat-seat-requires c =
     let id = ap (λ (f : FieldData). f.id) c.self.view_is in
     let some : 0 < word_count c.self.inside.table.shared.key.geometry = omega arith in
-    (c.loop.invariant.0 ∙ sym id, omega (arith, c.self.invariant, some), cut_keeps (opening_of c.self.inside.table.shared.key) c.loop.whole.id c.loop.whole.me.0)
+    (c.loop.invariant.0 ∙ sym id, omega (arith, c.self.invariant.0, some), cut_keeps (opening_of c.self.inside.table.shared.key) c.loop.whole.id c.loop.whole.me.0)
 
 pub loop-preserved : goal.loop-preserved
 loop-preserved c =

@@ -1,4 +1,4 @@
-use Rattle.std.proofs.Common.{◌≡◌, List, map, sym, ap, ◌∙◌, subst}
+use Rattle.std.proofs.Common.{◌≡◌, List, [], map, sym, ap, ◌∙◌, subst}
 use Rattle.std.specs.List.{All}
 use Rattle.shared_words.specs.Start.{start_words}
 use Rattle.core_machine.specs.declared.caller.Caller.{Caller}
@@ -7,9 +7,11 @@ use Rattle.core_machine.specs.InnerInvariant.{NumbersDiffer}
 use Rattle.core_machine.specs.InnerOpening.{AreStarting}
 use Rattle.gpt_descriptors.specs.Places.{GeometryData}
 use Rattle.race_run.specs.declared.rule.Start.{Start}
+use Rattle.race_run.specs.declared.view.Opening.{Opening}
 use Rattle.race_run.specs.Passes.{FieldData}
+use Rattle.race_run.specs.Turns.{IsMoment}
 use Rattle.race_run.specs.InnerRule.{fresh_seen, numbered, opening_of}
-use Rattle.race_run.proofs.OpeningLemmas.{opening_runs}
+use Rattle.race_run.proofs.OpeningLemmas.{opening_moment, opening_runs}
 use Rattle.race_run.proofs.DealLemmas.{are_opened}
 use Rattle.race_run.proofs.field.Field.open.Goals as goal
 
@@ -28,7 +30,14 @@ returns-clause-passes c =
     let key = c.in_ok-table.ensures.5 in
     let callers : c.in_ok-table.table.shared.key.callers.value.items ≡ c.args.callers.now.items = ap (λ (start : Start). start.callers.value.items) key ∙ ap (λ v. v.items) c.of-2.ensures in
     let geometry : c.in_ok-table.table.shared.key.geometry ≡ c.args.geometry = ap (λ (start : Start). start.geometry) key in
+    let words : c.in_ok-table.table.shared.key.words.value ≡ start_words c.args.geometry c.args.tables.now.l1 =
+        ap (λ (start : Start). start.words.value) key ∙ c.of.ensures ∙ c.in_ok-words.ensures.words ∙ ap (start_words c.args.geometry) c.l1.ensures.words in
+    let opening : opening_of c.in_ok-table.table.shared.key ≡ record { geometry = c.args.geometry; words = start_words c.args.geometry c.args.tables.now.l1; callers = c.args.callers.now.items } =
+        λ i. record { geometry = geometry i; words = words i; callers = callers i } in
     let f : FieldData = record { id = c.in_ok-table.table.shared.table_id; opening = opening_of c.in_ok-table.table.shared.key } in
     are_opened f c.deal.new.passes.items c.args.callers.now.items
     (c.deal.ensures ∙ ap (λ (own : List Caller). map (fresh_seen f) (numbered 0 own)) callers)
     (subst (λ (g : GeometryData). All (IsFresh g) c.args.callers.now.items) (sym geometry) c.requires.fresh)
+    (λ d x at.
+        subst (λ (o : Opening). IsMoment o d x []) (sym opening)
+        (opening_moment (record { geometry = c.args.geometry; words = start_words c.args.geometry c.args.tables.now.l1; callers = c.args.callers.now.items }) d x c.requires.starting c.requires.fresh c.requires.numbers at))

@@ -9,7 +9,7 @@ pub open-requires-clause-starting : goal.open-requires-clause-starting
 open-requires-clause-starting c = (
   first_map c.args.scenario.now,
   starts_at c.args.scenario.now c.geometry_of-geometry.result c.args.tables.now c.args.tables.now.l1 (start_words c.geometry_of-geometry.result c.args.tables.now.l1) c.requires.accepted c.geometry_of-geometry.ensures.geometry
-      c.geometry_of-geometry.ensures.known c.requires.built c.l1-l1.ensures.tables refl refl,
+      c.geometry_of-geometry.ensures.known c.requires.built c.l1-words.ensures.tables refl refl,
 )
 
 pub open-requires-clause-fresh : goal.open-requires-clause-fresh
