@@ -16,4 +16,4 @@ pub use law::{
     waits_have_causes,
 };
 pub use machine::Machine;
-pub use played::{count_cpus, geometry_of, play};
+pub use played::{answers_of, count_cpus, geometry_of, play};

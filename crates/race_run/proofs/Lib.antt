@@ -8,3 +8,4 @@ pub mod DealLemmas
 pub mod TurnLemmas
 pub mod OpenedLemmas
 pub mod CloseLemmas
+pub mod RunnerLemmas

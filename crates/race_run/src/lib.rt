@@ -6,7 +6,7 @@ mod closing;
 mod field;
 mod gate;
 mod opened;
-
+mod racing;
 mod rule;
 mod running;
 mod step;
@@ -17,6 +17,6 @@ mod view;
 pub use field::{Field, Pass};
 pub use gate::{Gate, OpenGate};
 pub use opened::Opened;
-
+pub use racing::race;
 pub use rule::{Running, Start};
 pub use view::{Opening, View};
