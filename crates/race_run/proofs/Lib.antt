@@ -9,3 +9,4 @@ pub mod TurnLemmas
 pub mod OpenedLemmas
 pub mod CloseLemmas
 pub mod RunnerLemmas
+pub mod RaceLemmas

@@ -27,6 +27,7 @@ pub record HasClosed (f : FieldData) (passes : List PassData) (callers : List Ca
   pub fits : (first : List Gpi) → AreStarting f.opening.geometry first f.opening.words
       → FitsHistory f.opening.geometry first (map caller_tasks f.opening.callers)
       (map caller_answers callers) words left.view.seen
+  pub tasks : map caller_tasks callers ≡ map caller_tasks f.opening.callers
   -- no caller has more answers than calls, and where none has an act left each call is answered
   pub within : (c : ℕ) (x : Caller) → slice_get callers c ≡ Some x
       → length (caller_answers x) ≤ length (caller_tasks x)

@@ -2,7 +2,8 @@ ghost use Rattle.std.specs.Prelude.{◌≡◌, ◌<◌, length, IfOk};
 ghost use Rattle.scenario_text.specs.Spelling.{WellFormed};
 ghost use Rattle.table_build.specs.Built.{tables_of};
 ghost use Rattle.core_machine.specs.InnerPlay.{callers_from};
-ghost use Rattle.core_machine.specs.Scenarios.{IsAccepted, first_words, geometry_of};
+ghost use Rattle.core_machine.specs.InnerOpening.{AreStarting};
+ghost use Rattle.core_machine.specs.Scenarios.{IsAccepted, first_map, first_words, geometry_of};
 ghost use Rattle.race_run.specs.Passes.{AreOn, AreOpened};
 
 use crate::field::{Field, Pass};
@@ -52,6 +53,8 @@ impl Opened {
           words = first_words scenario.now;
           callers = opened.callers;
         }) }
+        ensures starting { IfOk result (λ opened. AreStarting opened.field.opening.geometry
+            (first_map scenario.now) opened.field.opening.words) }
         ensures passes { IfOk result
             (λ opened. AreOpened opened.field opened.passes opened.callers) }
     {

@@ -1,7 +1,9 @@
-use Rattle.std.proofs.Common.{refl}
+use Rattle.std.proofs.Common.{refl, sym, subst}
 use Rattle.shared_words.specs.Start.{start_words}
 use Rattle.core_machine.specs.Scenarios.{first_map}
 use Rattle.core_machine.proofs.PlayLemmas.{fresh_at, starts_at}
+use Rattle.core_machine.specs.InnerOpening.{AreStarting}
+use Rattle.race_run.specs.declared.view.Opening.{Opening}
 use Rattle.race_run.proofs.OpenedLemmas.{on_opening}
 use Rattle.race_run.proofs.opened.Opened.of_scenario.Goals as goal
 
@@ -22,3 +24,9 @@ open-requires-clause-numbers c =
 
 pub invariant_of-result : goal.invariant_of-result
 invariant_of-result c = on_opening c.in_ok-field.field c.in_ok-field.passes.items c.in_ok-callers.callers.items c.in_ok-field.ensures.passes
+
+pub returns-clause-starting : goal.returns-clause-starting
+returns-clause-starting c =
+    subst (λ (o : Opening). AreStarting o.geometry (first_map c.args.scenario.now) o.words) (sym c.in_ok-field.ensures.opening)
+    (starts_at c.args.scenario.now c.geometry_of-geometry.result c.args.tables.now c.args.tables.now.l1 (start_words c.geometry_of-geometry.result c.args.tables.now.l1) c.requires.accepted c.geometry_of-geometry.ensures.geometry
+    c.geometry_of-geometry.ensures.known c.requires.built c.l1-words.ensures.tables refl refl)
