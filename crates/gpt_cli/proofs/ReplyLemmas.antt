@@ -22,6 +22,7 @@ use Rattle.gpt_cli.specs.declared.reply.Reply.{Reply}
 use Rattle.gpt_cli.specs.Statuses.{code_of}
 use Rattle.gpt_cli.specs.Texts.{plan_text, base_text}
 use Rattle.gpt_cli.specs.Upheld.{Upholds}
+use Rattle.gpt_cli.specs.Races.{IsRaced, Races, RacesScenario}
 use Rattle.gpt_cli.specs.Replies.{refused, has_left, run_status, accepted_reply, reply_of, Replies, loaded_reply, RepliesToLoad}
 use Rattle.gpt_cli.specs.InnerPreparing.{HasScenario, Refuses, refusal_line}
 
@@ -76,6 +77,27 @@ pub replies_refused : {E : Type 0} (command : Command) (bytes : List ℕ) (why :
 replies_refused command bytes why (Ok reply) refuses is rule = refused_replies command bytes why reply refuses is rule
 replies_refused command bytes why (Err e) refuses is rule = tt
 
+-- ---- races
+
+races_scenario : (bytes : List ℕ) (s : Scenario) (reply : Reply) → HasScenario bytes s → RacesScenario s reply → Races bytes reply
+races_scenario bytes s reply read replied = rw (le-ltb INPUT_LIMIT (length bytes) read.within, read.good) (s, read.formed, read.spelled, replied)
+
+pub races_prepared : {E : Type 0} (bytes : List ℕ) (s : Scenario) (r : Result Reply E) → HasScenario bytes s → IsAccepted s → IfOk r (λ reply. IsRaced s reply) → IfOk r (λ reply. Races bytes reply)
+races_prepared bytes s (Ok reply) read accepted raced = races_scenario bytes s reply read (rw (accepted.planned, accepted.based) raced)
+races_prepared bytes s (Err e) read accepted raced = tt
+
+refused_races : (bytes : List ℕ) (why : Refusal) (reply : Reply) → Refuses bytes why → reply ≡ refused (refusal_line why) → why ≢ cause.Memory → Races bytes reply
+refused_races bytes cause.TooLong reply long is rule = rw (lt-ltb INPUT_LIMIT (length bytes) long) is
+refused_races bytes (cause.Line n f) reply bad is rule = rw (le-ltb INPUT_LIMIT (length bytes) bad.0, bad.1) is
+refused_races bytes (cause.Plan e) reply bad is rule = races_scenario bytes bad.0 reply bad.1 (rw bad.2 is)
+refused_races bytes (cause.Base base) reply bad is rule = races_scenario bytes bad.0 reply bad.1 (rw (bad.2, bad.3) (is ∙ ap (λ (b : ℕ). refused (base_text b)) bad.4))
+refused_races bytes cause.Memory reply within is rule = absurd (rule refl)
+
+pub races_refused : {E : Type 0} (bytes : List ℕ) (why : Refusal) (r : Result Reply E) → Refuses bytes why
+    → IfOk r (λ reply. reply ≡ refused (refusal_line why)) → OnOk r (why ≢ cause.Memory) → IfOk r (λ reply. Races bytes reply)
+races_refused bytes why (Ok reply) refuses is rule = refused_races bytes why reply refuses is rule
+races_refused bytes why (Err e) refuses is rule = tt
+
 -- ---- statuses
 
 -- the status of a fault of reading, and of want of memory, is no reply's
@@ -128,3 +150,7 @@ pub load_same : (words : Option Request) (a b : ℕ) (reply : Reply) → words �
 load_same words a b reply first second replied =
     let same : a ≡ b = cc in
     subst (λ (n : ℕ). RepliesToLoad n reply) same replied
+
+pub raced_status : {E : Type 0} (s : Scenario) (r : Result Reply E) → IfOk r (λ reply. IsRaced s reply) → IfOk r (λ reply. IsTold (code_of reply.status))
+raced_status s (Ok reply) raced = subst (λ (r : Reply). IsTold (code_of r.status)) (sym raced.printed) (low_told 0 (omega arith))
+raced_status s (Err e) raced = tt

@@ -7,16 +7,20 @@ mod command;
 mod loaded;
 mod prepare;
 mod program;
+mod raced;
 mod refusal;
 mod reply;
 mod status;
 #[cfg(test)]
 mod tests;
+mod top;
 
 use gpt_io::{StdSink, StdSource};
 pub use program::still;
+use race_run::OpenGate;
 pub use reply::Reply;
 pub use status::Status;
+pub use top::top;
 use std::alloc::{AllocError, Global};
 use std::env;
 use std::io::ErrorKind;
@@ -40,7 +44,14 @@ fn run(rt: &HostRuntime, alloc: Global) -> Result<u8, AllocError> {
     }
     let mut source = StdSource::new(rt.stdin());
     let mut sink = StdSink::new(rt.stdout());
-    Ok(still(alloc, &texts, &mut source, &mut sink))
+    Ok(top(
+        rt,
+        alloc,
+        &texts,
+        &mut source,
+        &mut sink,
+        &OpenGate,
+    ))
 }
 
 fn main(rt: HostRuntime) -> ExitCode {

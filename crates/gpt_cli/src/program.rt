@@ -3,6 +3,7 @@ ghost use Rattle.std.specs.Io.KnownBytes.{Keeps, Consumes, IsAtEnd};
 ghost use Rattle.gpt_io.specs.Counts.{Rose};
 ghost use Rattle.gpt_cli.specs.Statuses.{code_of};
 ghost use Rattle.gpt_cli.specs.Replies.{usage, Replies, RepliesToLoad};
+ghost use Rattle.gpt_cli.specs.Races.{IsRace};
 ghost use Rattle.gpt_cli.specs.Runs.{IsCommandOf, IsCommand, IsLoadOf, IsLoad, Delivers};
 ghost use Rattle.gpt_cli.specs.declared.command.Command.{Command as TheCommand};
 ghost use Rattle.gpt_cli.specs.declared.reply.Reply.{Reply as TheReply};
@@ -35,7 +36,7 @@ fn reply_to(alloc: Global, command: Command, bytes: Vec<u8>) -> Result<Reply, Al
 }
 
 /// Writes the text and answers the status, or that a write failed.
-fn send<K: Sink>(sink: &mut K, status: Status, text: &[u8]) -> Status
+pub(crate) fn send<K: Sink>(sink: &mut K, status: Status, text: &[u8]) -> Status
     ensures { Delivers (K.held sink.old) (K.held sink.new) (K.faults sink.old) (K.faults sink.new)
         (record { status = status; text = text.now }) (code_of result) }
 {
@@ -46,9 +47,11 @@ fn send<K: Sink>(sink: &mut K, status: Status, text: &[u8]) -> Status
     }
 }
 
-/// All that the program does: reads an input, unless the words are a load, and writes its reply. It waits for nobody and always
-/// returns. The answer is the code of a `Status`, which says what was written.
+/// All that the program does but for `race`: reads an input, unless the words are a load, and writes its reply.
+/// It waits for nobody and always returns. The answer is the code of a `Status`, which says what was
+/// written.
 pub fn still<S: Source, K: Sink>(alloc: Global, words: &[&str], source: &mut S, sink: &mut K) -> u8
+    requires { ¬ IsRace (map (λ word. word.now) words.now) }
     // Words that are no command, and a load, read nothing.
     ensures usage { ¬ IsCommand (map (λ word. word.now) words.now)
         → ¬ IsLoad (map (λ word. word.now) words.now)
