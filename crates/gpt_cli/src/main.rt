@@ -27,9 +27,17 @@ use std::io::ErrorKind;
 use std::process::ExitCode;
 
 /// The words after the program's name. A word that isn't UTF-8 counts as no words at all.
+///
+/// They are pushed, since `collect` goes on where its first room is refused.
 fn words(rt: &HostRuntime, alloc: Global) -> Result<Vec<String>, AllocError> {
     match env::args(rt) {
-        Ok(words) => words.skip(1).collect(alloc),
+        Ok(arguments) => {
+            let mut words = Vec::new(alloc);
+            for word in arguments.skip(1) {
+                words.push(word)?;
+            }
+            Ok(words)
+        }
         Err(error) if error.kind() == ErrorKind::OutOfMemory => Err(AllocError),
         Err(_) => Ok(Vec::new(alloc)),
     }
