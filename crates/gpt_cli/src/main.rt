@@ -23,8 +23,10 @@ pub use status::Status;
 pub use top::top;
 use std::alloc::{AllocError, Global};
 use std::env;
-use std::io::ErrorKind;
+use std::io::{ErrorKind, Read, Write};
 use std::process::ExitCode;
+use std::sync::Wait;
+use std::thread::Threads;
 
 /// The words after the program's name. A word that isn't UTF-8 counts as no words at all.
 ///
@@ -43,15 +45,20 @@ fn words(rt: &HostRuntime, alloc: Global) -> Result<Vec<String>, AllocError> {
     }
 }
 
-/// Runs the program over the standard streams.
-fn run(rt: &HostRuntime, alloc: Global) -> Result<u8, AllocError> {
-    let words = words(rt, alloc)?;
+/// Runs the program over these streams.
+fn run<R: Threads + Wait + Sync, I: Read + Drop, O: Write + Drop>(
+    rt: &R,
+    alloc: Global,
+    words: &[String],
+    input: I,
+    output: O,
+) -> Result<u8, AllocError> {
     let mut texts = Vec::new(alloc);
-    for word in &words {
+    for word in words {
         texts.push(word.as_str())?;
     }
-    let mut source = StdSource::new(rt.stdin());
-    let mut sink = StdSink::new(rt.stdout());
+    let mut source = StdSource::new(input);
+    let mut sink = StdSink::new(output);
     Ok(top(
         rt,
         alloc,
@@ -64,5 +71,9 @@ fn run(rt: &HostRuntime, alloc: Global) -> Result<u8, AllocError> {
 
 fn main(rt: HostRuntime) -> ExitCode {
     let alloc = rt.alloc();
-    ExitCode::from(run(&rt, alloc).unwrap_or(Status::NoMemory.code()))
+    let Ok(words) = words(&rt, alloc) else {
+        return ExitCode::from(Status::NoMemory.code());
+    };
+    let code = run(&rt, alloc, &words, rt.stdin(), rt.stdout());
+    ExitCode::from(code.unwrap_or(Status::NoMemory.code()))
 }
