@@ -10,3 +10,4 @@ pub mod OpenedLemmas
 pub mod CloseLemmas
 pub mod RunnerLemmas
 pub mod RaceLemmas
+pub mod NothingLeftLemmas

@@ -4,3 +4,4 @@ pub mod Closing
 pub mod InnerRule
 pub mod InnerRunners
 pub mod Race
+pub mod NothingLeft

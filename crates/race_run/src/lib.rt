@@ -5,6 +5,7 @@
 mod closing;
 mod field;
 mod gate;
+mod law;
 mod opened;
 mod racing;
 mod rule;
@@ -16,6 +17,7 @@ mod view;
 
 pub use field::{Field, Pass};
 pub use gate::{Gate, OpenGate};
+pub use law::nothing_is_left_at_done;
 pub use opened::Opened;
 pub use racing::race;
 pub use rule::{Running, Start};

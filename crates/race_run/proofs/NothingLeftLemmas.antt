@@ -1,0 +1,32 @@
+-- What the core says of a transition that is done, for the callers of a running field.
+use Rattle.std.proofs.Common.{◌≡◌, ℕ, List, [], Some, ap, sym, ◌∙◌, inl, inr}
+use Rattle.std.specs.Prelude.{slice_get}
+use Rattle.core_machine.specs.declared.caller.Caller.{Caller}
+use Rattle.core_machine.specs.declared.caller.Caller.TheVariants as caller
+use Rattle.delegate_ops.specs.Script.{granule_of_task}
+use Rattle.core_machine.proofs.NothingLeftLemmas.{cleaned_has_nothing_left, cleaned_stays, done_is_cleaned}
+use mathlib.Core.Option.{some}
+use lib.ListN.{get_elem?}
+use Rattle.race_run.specs.declared.view.Opening.{Opening}
+use Rattle.race_run.specs.declared.view.View.{View}
+use Rattle.race_run.specs.InnerRule.{IsRunning}
+use Rattle.race_run.specs.NothingLeft.{NothingIsLeftAtDone, NothingStaysLeft, scene_in}
+
+-- a caller that some pass holds is one of the callers
+held_there : (o : Opening) (words : List ℕ) (views : List View) (id p c : ℕ) (v : View) (x : Caller) (rule : IsRunning o words views) → get_elem? views id ≡ some v → slice_get v.held p ≡ Some (c, x) → slice_get rule.callers c ≡ Some x
+held_there o words views id p c v x rule at held =
+    elim (rule.fits id v at) [
+      | inl spent ↦ absurd (let gone : slice_get [] p ≡ Some (c, x) = ap (λ (l : List (ℕ × Caller)). slice_get l p) (sym spent.1) ∙ held in cc)
+      | inr knows ↦ (knows.held p (c, x) held).0
+    ]
+
+pub nothing_is_left : NothingIsLeftAtDone
+nothing_is_left o words views id p c v a t k first rule at held done task starting =
+    let holds = rule.holds first starting in
+    let there = held_there o words views id p c v (caller.Agent a) rule at held in
+    let cleaned = done_is_cleaned o.geometry (scene_in o words views rule first) c a t k holds there done task in
+    (cleaned, cleaned_has_nothing_left o.geometry (scene_in o words views rule first) (granule_of_task o.geometry t) holds cleaned)
+
+pub nothing_stays : NothingStaysLeft
+nothing_stays o words views id c granule v x t first rule at held next unchanged cleaned =
+    cleaned_stays (scene_in o words views rule first) c granule x t (held_there o words views id 0 c v x rule at held) next unchanged cleaned
