@@ -4,6 +4,8 @@
 
 mod accepted;
 mod command;
+#[cfg(test)]
+mod held;
 mod loaded;
 mod prepare;
 mod program;

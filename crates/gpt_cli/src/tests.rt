@@ -1,7 +1,10 @@
-use crate::program::still;
+use crate::top::top;
 use gpt_io::{MemorySink, MemorySource};
+use race_run::OpenGate;
 use std::alloc::{AllocError, Global};
+use std::sync::Wait;
 use std::test::Fail;
+use std::thread::Threads;
 
 /// One gigabyte of Non-secure granules.
 const SCENARIO: &[u8] =
@@ -116,8 +119,14 @@ fn board(alloc: Global) -> Result<Vec<u8>, AllocError> {
 }
 
 /// The status of a run over memory with these words.
-fn status(alloc: Global, words: &[&str], source: &mut MemorySource, sink: &mut MemorySink) -> u8 {
-    still(alloc, words, source, sink)
+fn status<R: Threads + Wait + Sync>(
+    rt: &R,
+    alloc: Global,
+    words: &[&str],
+    source: &mut MemorySource,
+    sink: &mut MemorySink,
+) -> u8 {
+    top(rt, alloc, words, source, sink, &OpenGate)
 }
 
 #[test]
@@ -125,7 +134,7 @@ fn a_report_is_written_whole(rt: HostRuntime) -> Result<(), Fail> {
     let alloc = rt.alloc();
     let mut source = source(alloc, SCENARIO, 0)?;
     let mut sink = sink(alloc, REPORT.len(), 0)?;
-    assert_eq!(rt; status(alloc, &["tables"], &mut source, &mut sink), 0);
+    assert_eq!(rt; status(&rt, alloc, &["tables"], &mut source, &mut sink), 0);
     assert_eq!(rt; sink.taken(), REPORT);
     assert_eq!(rt; source.reads(), 2);
     assert_eq!(rt; sink.writes(), 7);
@@ -138,7 +147,7 @@ fn a_played_schedule_is_reported(rt: HostRuntime) -> Result<(), Fail> {
     for (input, text, want) in [(REFUSED, PLAYED, 0u8), (CUT, LEFT, 6)] {
         let mut source = source(alloc, input, 0)?;
         let mut sink = sink(alloc, text.len(), 0)?;
-        assert_eq!(rt; status(alloc, &["play"], &mut source, &mut sink), want);
+        assert_eq!(rt; status(&rt, alloc, &["play"], &mut source, &mut sink), want);
         assert_eq!(rt; sink.taken(), text);
     }
     Ok(())
@@ -151,7 +160,7 @@ fn a_failed_read_leaves_the_sink_empty(rt: HostRuntime) -> Result<(), Fail> {
         let mut source = source(alloc, SCENARIO, failing)?;
         let mut sink = sink(alloc, REPORT.len(), 0)?;
         assert_eq!(rt;
-            status(alloc, &["tables"], &mut source, &mut sink),
+            status(&rt, alloc, &["tables"], &mut source, &mut sink),
             3,
             "at {failing}"
         );
@@ -173,7 +182,7 @@ fn a_failed_read_of_a_long_input_leaves_the_sink_empty(rt: HostRuntime) -> Resul
             let mut source = source(alloc, &input, failing)?;
             let mut sink = sink(alloc, BOARD_REPORT.len(), 0)?;
             assert_eq!(rt;
-                status(alloc, &[command], &mut source, &mut sink),
+                status(&rt, alloc, &[command], &mut source, &mut sink),
                 3,
                 "at {failing}"
             );
@@ -182,7 +191,7 @@ fn a_failed_read_of_a_long_input_leaves_the_sink_empty(rt: HostRuntime) -> Resul
     }
     let mut source = source(alloc, &input, 16)?;
     let mut sink = sink(alloc, BOARD_REPORT.len(), 0)?;
-    assert_eq!(rt; status(alloc, &["tables"], &mut source, &mut sink), 0);
+    assert_eq!(rt; status(&rt, alloc, &["tables"], &mut source, &mut sink), 0);
     assert_eq!(rt; sink.taken(), BOARD_REPORT);
     assert_eq!(rt; source.reads(), 15);
     Ok(())
@@ -202,7 +211,7 @@ fn a_failed_write_cuts_the_text_where_it_comes(rt: HostRuntime) -> Result<(), Fa
             let mut source = source(alloc, input, 0)?;
             let mut sink = sink(alloc, text.len(), failing)?;
             assert_eq!(rt;
-                status(alloc, &[command], &mut source, &mut sink),
+                status(&rt, alloc, &[command], &mut source, &mut sink),
                 4,
                 "at {failing}"
             );
@@ -228,7 +237,7 @@ fn a_full_sink_cuts_the_text_at_its_room(rt: HostRuntime) -> Result<(), Fail> {
             let mut sink = sink(alloc, room, 0)?;
             let want = if room < text.len() { 4 } else { whole };
             assert_eq!(rt;
-                status(alloc, &[command], &mut source, &mut sink),
+                status(&rt, alloc, &[command], &mut source, &mut sink),
                 want,
                 "at {room}"
             );
@@ -247,7 +256,7 @@ fn words_that_are_no_command_read_nothing(rt: HostRuntime) -> Result<(), Fail> {
         &["table"],
         &["tables", "tables"],
         &["play", "0"],
-        &["race"],
+        &["race", "0"],
         &["load"],
         &["load", "01"],
         &["load", ""],
@@ -259,9 +268,9 @@ fn words_that_are_no_command_read_nothing(rt: HostRuntime) -> Result<(), Fail> {
         let mut source = source(alloc, SCENARIO, 1)?;
         let mut whole = sink(alloc, USAGE.len(), 0)?;
         let mut failing = sink(alloc, USAGE.len(), 1)?;
-        assert_eq!(rt; status(alloc, words, &mut source, &mut whole), 2);
+        assert_eq!(rt; status(&rt, alloc, words, &mut source, &mut whole), 2);
         assert_eq!(rt; whole.taken(), USAGE);
-        assert_eq!(rt; status(alloc, words, &mut source, &mut failing), 4);
+        assert_eq!(rt; status(&rt, alloc, words, &mut source, &mut failing), 4);
         assert!(rt; failing.taken().is_empty());
         assert_eq!(rt; source.reads(), 0);
     }
@@ -282,14 +291,14 @@ fn a_load_reads_nothing_and_replies_by_its_number(rt: HostRuntime) -> Result<(),
         let words = ["load", number];
         let mut source = source(alloc, SCENARIO, 1)?;
         let mut once = sink(alloc, 300, 0)?;
-        assert_eq!(rt; status(alloc, &words, &mut source, &mut once), 0);
+        assert_eq!(rt; status(&rt, alloc, &words, &mut source, &mut once), 0);
         assert!(rt; once.taken().starts_with(first.as_bytes()), "of {number}");
         assert!(rt; once.taken().ends_with(b"\nend\n"), "of {number}");
         let mut again = sink(alloc, 300, 0)?;
-        assert_eq!(rt; status(alloc, &words, &mut source, &mut again), 0);
+        assert_eq!(rt; status(&rt, alloc, &words, &mut source, &mut again), 0);
         assert_eq!(rt; again.taken(), once.taken());
         let mut failing = sink(alloc, 300, 2)?;
-        assert_eq!(rt; status(alloc, &words, &mut source, &mut failing), 4);
+        assert_eq!(rt; status(&rt, alloc, &words, &mut source, &mut failing), 4);
         assert_eq!(rt; failing.taken(), b"report 1 l".as_slice());
         assert_eq!(rt; source.reads(), 0);
     }
@@ -307,7 +316,7 @@ fn the_first_rule_that_refuses_is_named(rt: HostRuntime) -> Result<(), Fail> {
     for (input, line) in table {
         let mut source = source(alloc, input, 0)?;
         let mut sink = sink(alloc, 20, 0)?;
-        assert_eq!(rt; status(alloc, &["play"], &mut source, &mut sink), 1);
+        assert_eq!(rt; status(&rt, alloc, &["play"], &mut source, &mut sink), 1);
         assert_eq!(rt; sink.taken(), line.as_bytes());
     }
     Ok(())
@@ -325,7 +334,7 @@ fn an_input_has_a_limit(rt: HostRuntime) -> Result<(), Fail> {
         let mut source = MemorySource::new(vec![in alloc; b'\n'; length]?, Vec::new(alloc));
         let mut sink = sink(alloc, 20, 0)?;
         assert_eq!(rt;
-            status(alloc, &["tables"], &mut source, &mut sink),
+            status(&rt, alloc, &["tables"], &mut source, &mut sink),
             1,
             "of {length}"
         );

@@ -1,5 +1,5 @@
 -- All passes joined into one: it has each caller and has seen the whole history, which the answers and the words fit.
-use Rattle.std.proofs.Common.{◌≡◌, ℕ, zero, suc, ◌+◌, ◌<◌, List, [], ◌∷◌, ◌++◌, map, length, length-append, append-nil, take, eqb, true, refl, Option, Some, sym, ap, ◌∙◌, subst, inl, inr, arith}
+use Rattle.std.proofs.Common.{◌≡◌, ℕ, zero, suc, ◌+◌, ◌<◌, List, [], ◌∷◌, ◌++◌, map, length, length-append, append-nil, take, true, refl, Option, Some, sym, ap, ◌∙◌, subst, inl, inr, arith}
 use Rattle.std.specs.Prelude.{slice_get, ◌==◌, ◌≤◌, Bool, false, not, is_some, option_and_then, None}
 use Rattle.std.specs.List.{All}
 use Rattle.std.specs.Option.{option_map}
@@ -32,7 +32,7 @@ use Rattle.race_run.specs.declared.view.Opening.{Opening}
 use Rattle.race_run.specs.declared.view.View.{View}
 use Rattle.race_run.specs.Passes.{FieldData, PassData}
 use Rattle.race_run.specs.Closing.{AreAll, HasClosed}
-use Rattle.race_run.specs.InnerRule.{AreOf, Begins, IsHeld, IsRunning, KnowsOf, joined, joined_back, nobody, role_of, with_held}
+use Rattle.race_run.specs.InnerRule.{AreOf, Begins, IsHeld, IsRunning, KnowsOf, joined, joined_back, role_of, with_held}
 use Rattle.race_run.proofs.SplitLemmas.{Held}
 use Rattle.race_run.proofs.StepLemmas.{knows_so, same_tasks}
 use Rattle.race_run.proofs.JoinLemmas.{none_there}
@@ -136,9 +136,9 @@ module _ (o : Opening) (words : List ℕ) (views : List View) (id : ℕ) (v : Vi
   sees_whole : ended.rule.history ≡ v.seen
   sees_whole =
       let rest : knows.seen.0 ≡ [] =
-          no_rest (length ended.rule.callers) knows.seen.0 all_own
-          (all_back (λ e. caller_in e < length ended.rule.callers) v.seen knows.seen.0
-          (All-same (λ e. caller_in e < length ended.rule.callers) (v.seen ++ knows.seen.0) ended.rule.history (sym knows.seen.1) (ended.rule.holds ended.rule.starting.0 ended.rule.starting.1).history.known)) in
+      no_rest (length ended.rule.callers) knows.seen.0 all_own
+      (all_back (λ e. caller_in e < length ended.rule.callers) v.seen knows.seen.0
+      (All-same (λ e. caller_in e < length ended.rule.callers) (v.seen ++ knows.seen.0) ended.rule.history (sym knows.seen.1) (ended.rule.holds ended.rule.starting.0 ended.rule.starting.1).history.known)) in
       knows.seen.1 ∙ ap (λ (es : List Entry). v.seen ++ es) rest ∙ append-nil v.seen
 
   words_fit : (first : List Gpi) → AreStarting o.geometry first o.words → FitsHistory o.geometry first (map caller_tasks o.callers) (map caller_answers callers) words v.seen
@@ -176,9 +176,9 @@ each_answered g callers made ended c k t asked none =
       | inl there ↦
           (let x = there.0 in
           let task : slice_get (caller_tasks x) k ≡ Some t =
-              ap (option_and_then (λ own. slice_get own k)) (sym (slice_get-map caller_tasks callers c ∙ ap (λ (b : Option Caller). option_map caller_tasks b) there.2)) ∙ asked in
+          ap (option_and_then (λ own. slice_get own k)) (sym (slice_get-map caller_tasks callers c ∙ ap (λ (b : Option Caller). option_map caller_tasks b) there.2)) ∙ asked in
           let answer : slice_get (caller_answers x) k ≡ None =
-              ap (option_and_then (λ own. slice_get own k)) (sym (slice_get-map caller_answers callers c ∙ ap (λ (b : Option Caller). option_map caller_answers b) there.2)) ∙ none in
+          ap (option_and_then (λ own. slice_get own k)) (sym (slice_get-map caller_answers callers c ∙ ap (λ (b : Option Caller). option_map caller_answers b) there.2)) ∙ none in
           omega (arith, slice_get_within (caller_tasks x) k t task, past_all (caller_answers x) k (ap is_some answer), none_left g c x (made c x there.2) (ended c x there.2)))
       | inr past ↦
           absurd (let gone : None ≡ Some t = ap (option_and_then (λ own. slice_get own k)) (sym (slice_get-map caller_tasks callers c ∙ ap (λ (b : Option Caller). option_map caller_tasks b) past.1)) ∙ asked in cc)

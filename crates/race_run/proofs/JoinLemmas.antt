@@ -1,7 +1,6 @@
 -- Passes that come, are joined and leave keep the rule: of two beginnings of one history the longer has the entries of both.
-use Rattle.std.proofs.Common.{◌≡◌, ◌≢◌, ◌⊎◌, ℕ, zero, suc, ◌+◌, List, [], ◌∷◌, ◌++◌, length, length-append, append-nil, append_assoc, set, Some, None, refl, sym, ap, ◌∙◌, subst, inl, inr, arith}
+use Rattle.std.proofs.Common.{◌≡◌, ◌≢◌, ◌⊎◌, ℕ, zero, suc, ◌+◌, List, [], ◌∷◌, ◌++◌, length, length-append, append-nil, set, Some, refl, sym, ap, ◌∙◌, subst, inl, inr, arith}
 use Rattle.std.specs.Prelude.{slice_get, ◌==◌}
-use Rattle.std.specs.List.{All}
 use Rattle.std.proofs.lemmas.List.Elements.{All-append, All-cons, All-nil, filter-append}
 use mathlib.Core.Option.{some}
 use lib.ListN.{get_elem?}
@@ -14,10 +13,10 @@ use Rattle.core_machine.specs.declared.caller.Caller.{Caller}
 use Rattle.core_machine.specs.InnerCallers.{own_of}
 use Rattle.race_run.specs.declared.view.Opening.{Opening}
 use Rattle.race_run.specs.declared.view.View.{View}
-use Rattle.race_run.specs.InnerRule.{Begins, Entered, HeldOnce, IsHeld, IsRunning, IsSpent, KnowsOf, joined, longer, nobody, spent, whole, with_held}
+use Rattle.race_run.specs.InnerRule.{Begins, Entered, HeldOnce, IsRunning, IsSpent, KnowsOf, joined, longer, nobody, spent, whole, with_held}
 use Rattle.race_run.proofs.SplitLemmas.{FitsIn, Held, last_or}
 use Rattle.race_run.proofs.StepLemmas.{knows_so}
-use Rattle.race_run.proofs.ViewLemmas.{Before, once_before}
+use Rattle.race_run.proofs.ViewLemmas.{once_before}
 
 -- ---- two beginnings of one history
 
@@ -123,24 +122,24 @@ module _ (views : List View) (id other : ℕ) (v w : View) (at : get_elem? views
 pub join_keeps : (o : Opening) (id other : ℕ) (v w : View) → v.opening ≡ Some o → w.opening ≡ Some o → Joins {S = ℕ} (λ s. IsRunning o s.words s.views) id v other w (joined v w) spent
 join_keeps o id other v w opens also s rule at apart there =
     let before : get_elem? s.views other ≡ some w =
-        elim (at_set s.views id other (joined v w) w there) [
-          | inl same ↦ absurd (apart same.0)
-          | inr far ↦ far.1
-        ] in
+    elim (at_set s.views id other (joined v w) w there) [
+      | inl same ↦ absurd (apart same.0)
+      | inr far ↦ far.1
+    ] in
     let own = (rule.holds rule.starting.0 rule.starting.1).history.own in
     let left = knows_so o rule.callers rule.history v opens (rule.fits id v at) in
     let right = knows_so o rule.callers rule.history w also (rule.fits other w before) in
     with_views o s.words s.views (after_join s.views id other v w) rule
     (λ j u is.
-        elim (at_set (set s.views id (joined v w)) other j spent u is) [
-          | inl last ↦ inl (subst IsSpent last.1 (refl, refl))
-          | inr first ↦ elim (at_set s.views id j (joined v w) u first.1) [
-            | inl here ↦ inr (subst (KnowsOf o rule.callers rule.history) here.1 (joined_knows o rule.callers rule.history v w own left right))
-            | inr far ↦ rule.fits j u far.1
-          ]
-        ])
+    elim (at_set (set s.views id (joined v w)) other j spent u is) [
+      | inl last ↦ inl (subst IsSpent last.1 (refl, refl))
+      | inr first ↦ elim (at_set s.views id j (joined v w) u first.1) [
+        | inl here ↦ inr (subst (KnowsOf o rule.callers rule.history) here.1 (joined_knows o rule.callers rule.history v w own left right))
+        | inr far ↦ rule.fits j u far.1
+      ]
+    ])
     (λ i j p q c u t x y first second a b.
-        one_place s.views id other v w at before apart rule.once i j p q c x y (was_held s.views id other i p v w u (c, x) first a) (was_held s.views id other j q v w t (c, y) second b))
+    one_place s.views id other v w at before apart rule.once i j p q c x y (was_held s.views id other i p v w u (c, x) first a) (was_held s.views id other j q v w t (c, y) second b))
 
 -- ---- coming
 
@@ -151,11 +150,11 @@ knows_all o callers h = record { opening = refl; seen = ([], sym (append-nil h))
 beside_nobody : (views : List View) (w : View) → w.held ≡ [] → HeldOnce views → HeldOnce (views ++ w ∷ [])
 beside_nobody views w none once =
     once_before views (views ++ w ∷ []) (λ i p d u y there holds.
-        elim (last_or views w u i there) [
-          | inl before ↦ (u, y, before, holds)
-          | inr last ↦
-              absurd (let gone : slice_get [] p ≡ Some (d, y) = subst (λ (held : List Held). slice_get held p ≡ Some (d, y)) none (subst (λ (t : View). slice_get t.held p ≡ Some (d, y)) (sym last.1) holds) in cc)
-        ]) once
+    elim (last_or views w u i there) [
+      | inl before ↦ (u, y, before, holds)
+      | inr last ↦
+          absurd (let gone : slice_get [] p ≡ Some (d, y) = subst (λ (held : List Held). slice_get held p ≡ Some (d, y)) none (subst (λ (t : View). slice_get t.held p ≡ Some (d, y)) (sym last.1) holds) in cc)
+    ]) once
 
 pub enters : (o : Opening) (slots i : ℕ) → Enters {S = ℕ} (λ s. IsRunning o s.words s.views) slots i (λ n w. Entered (whole o, []) (w, []))
 enters o slots i s rule many low =
@@ -163,10 +162,10 @@ enters o slots i s rule many low =
       w,
       with_views o s.words s.views (s.views ++ w ∷ []) rule
           (λ j u there.
-              elim (last_or s.views w u j there) [
-                | inl before ↦ rule.fits j u before
-                | inr last ↦ inr (subst (KnowsOf o rule.callers rule.history) last.1 (knows_all o rule.callers rule.history))
-              ])
+          elim (last_or s.views w u j there) [
+            | inl before ↦ rule.fits j u before
+            | inr last ↦ inr (subst (KnowsOf o rule.callers rule.history) last.1 (knows_all o rule.callers rule.history))
+          ])
           (beside_nobody s.views w refl rule.once),
       λ p opens. (rule.history, ap (λ (q : Opening). (nobody q rule.history, [])) (let both : Some o ≡ Some p = opens in cc)),
     )
@@ -182,9 +181,9 @@ leaves o id v s rule at =
     let same : set s.views id v ≡ s.views = set_again s.views id v at in
     subst (λ (views : List View). IsRunning o s.words (views ++ with_held v [] ∷ [])) (sym same)
     (with_views o s.words s.views (s.views ++ with_held v [] ∷ []) rule
-        (λ j u there.
-            elim (last_or s.views (with_held v []) u j there) [
-              | inl before ↦ rule.fits j u before
-              | inr last ↦ subst (FitsIn o rule.callers rule.history) last.1 (knows_alone o rule.callers rule.history v (rule.fits id v at))
-            ])
-        (beside_nobody s.views (with_held v []) refl rule.once))
+    (λ j u there.
+    elim (last_or s.views (with_held v []) u j there) [
+      | inl before ↦ rule.fits j u before
+      | inr last ↦ subst (FitsIn o rule.callers rule.history) last.1 (knows_alone o rule.callers rule.history v (rule.fits id v at))
+    ])
+    (beside_nobody s.views (with_held v []) refl rule.once))

@@ -1,10 +1,9 @@
 -- What callers that ran to their ends leave: each call is answered, and answers and words fit the history.
-use Rattle.std.proofs.Common.{◌≡◌, ◌≤◌, ℕ, zero, suc, List, [], ◌∷◌, length, map, Option, Some, None, refl, sym, ap, ◌∙◌, subst, arith, inl, inr}
+use Rattle.std.proofs.Common.{◌≡◌, ◌≤◌, ℕ, suc, List, [], ◌∷◌, length, map, Some, None, refl, sym, ap, ◌∙◌, subst, arith}
 use Rattle.std.specs.Prelude.{slice_get}
 use Rattle.std.specs.Option.{option_map}
 use Rattle.std.proofs.lemmas.List.{length-map}
 use Rattle.std.proofs.lemmas.Option.{slice_get-map}
-use Rattle.gpi_values.specs.declared.gpi.Gpi.{Gpi}
 use Rattle.gpt_descriptors.specs.Places.{GeometryData}
 use Rattle.scenario_text.specs.declared.scenario.Scenario.{Scenario}
 use Rattle.scenario_text.specs.declared.scenario.Script.{Script}
@@ -12,7 +11,6 @@ use Rattle.scenario_text.specs.declared.scenario.Script.TheVariants as script
 use Rattle.scenario_text.specs.Calls.{AreAnswersOf, calls_of}
 use Rattle.history.specs.declared.call.Task.{Task}
 use Rattle.history.specs.declared.call.Answer.{Answer}
-use Rattle.history.specs.declared.entry.Entry.{Entry}
 use Rattle.history.specs.declared.outcome.Outcome.{Outcome}
 use Rattle.processor.proofs.CpuLemmas.{some_mapped}
 use Rattle.core_machine.specs.declared.caller.Caller.{Caller}

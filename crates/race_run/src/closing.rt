@@ -15,11 +15,7 @@ impl Field {
     /// The shared words at the end, and a pass that has seen the whole history. The passes are all that this
     /// field's `open` made, possibly after turns, in their order. AllocError where the memory for the
     /// words isn't found: the field and the passes are given up.
-    pub fn close(
-        self,
-        alloc: Global,
-        passes: Vec<Pass>,
-    ) -> Result<(Vec<u64>, Pass), AllocError>
+    pub fn close(self, alloc: Global, passes: Vec<Pass>) -> Result<(Vec<u64>, Pass), AllocError>
         requires all { (callers : List TheCaller) × AreAll self passes.items callers }
         ensures { (callers : List TheCaller) → AreAll self passes.items callers
             → IfOk result (λ closed. HasClosed self passes.items callers closed.0.items closed.1) }

@@ -1,7 +1,6 @@
-use Rattle.std.proofs.Common.{◌≡◌, ℕ, List, length, map, sym, ap, ◌∙◌, subst}
+use Rattle.std.proofs.Common.{◌≡◌, ℕ, List, length, sym, ap, ◌∙◌, subst}
 use Rattle.std.proofs.lemmas.List.{length-map}
 use Rattle.core_machine.specs.declared.caller.Caller.{Caller}
-use Rattle.race_run.specs.declared.racing.Runner.{Runner}
 use Rattle.race_run.specs.declared.view.Opening.{Opening}
 use Rattle.core_machine.specs.InnerOpening.{AreStarting}
 use Rattle.core_machine.specs.Scenarios.{first_map, first_words, geometry_of}
@@ -21,8 +20,8 @@ pub close_into-words-requires-clause-all : goal.close_into-words-requires-clause
 close_into-words-requires-clause-all g c =
     let paired : length c.pair.new.runners.items ≡ length c.into_parts-field.result.2.items = sym (length-map c.pair.new.runners.items caller_in) ∙ ap (λ (xs : List Caller). length xs) c.pair.ensures.callers in
     let given : c.into_parts-field.result.2.items ≡ c.into_parts-field.result.0.opening.callers =
-        c.into_parts-field.ensures.callers
-        ∙ sym (ap (λ (k : FieldData). k.opening.callers) c.into_parts-field.ensures.field ∙ ap (λ (o : Opening). o.callers) c.in_ok-of_scenario.ensures.opening) in (
+    c.into_parts-field.ensures.callers
+    ∙ sym (ap (λ (k : FieldData). k.opening.callers) c.into_parts-field.ensures.field ∙ ap (λ (o : Opening). o.callers) c.in_ok-of_scenario.ensures.opening) in (
       c.part.new.callers.items,
       all_again c.into_parts-field.result.0 c.part.new.passes.items c.part.new.callers.items c.run_all.new.runners.items c.part.ensures.passes c.part.ensures.callers
           (c.run_all.ensures.many ∙ paired ∙ ap (λ (xs : List Caller). length xs) given) c.run_all.ensures.runners,
@@ -34,9 +33,9 @@ raced_so g c =
     let opened = c.in_ok-of_scenario.ensures in
     let paired : length c.pair.new.runners.items ≡ length c.into_parts-field.result.2.items = sym (length-map c.pair.new.runners.items caller_in) ∙ ap (λ (xs : List Caller). length xs) c.pair.ensures.callers in
     let given : c.into_parts-field.result.2.items ≡ c.into_parts-field.result.0.opening.callers =
-        c.into_parts-field.ensures.callers ∙ sym (ap (λ (k : FieldData). k.opening.callers) field ∙ ap (λ (o : Opening). o.callers) opened.opening) in
+    c.into_parts-field.ensures.callers ∙ sym (ap (λ (k : FieldData). k.opening.callers) field ∙ ap (λ (o : Opening). o.callers) opened.opening) in
     let all = all_again c.into_parts-field.result.0 c.part.new.passes.items c.part.new.callers.items c.run_all.new.runners.items c.part.ensures.passes c.part.ensures.callers
-        (c.run_all.ensures.many ∙ paired ∙ ap (λ (xs : List Caller). length xs) given) c.run_all.ensures.runners in
+    (c.run_all.ensures.many ∙ paired ∙ ap (λ (xs : List Caller). length xs) given) c.run_all.ensures.runners in
     let closed = c.close_into-words.ensures c.part.new.callers.items all in
     record {
       opening = ap (λ (k : FieldData). k.opening) field ∙ opened.opening ∙ ap (λ (xs : List Caller). record { geometry = geometry_of c.args.scenario.now; words = first_words c.args.scenario.now; callers = xs }) opened.callers;

@@ -1,7 +1,4 @@
 use Rattle.std.proofs.Common.{◌≡◌, ℕ, ◌<◌, [], List, Some, refl, ap, sym, ◌∙◌, subst, arith}
-use mathlib.Core.Option.{some}
-use lib.ListN.{get_elem?}
-use Rattle.std.specs.Slots.{slots_items}
 use Rattle.atomic_table.specs.Table.{Me}
 use Rattle.gpt_descriptors.specs.Places.{word_count}
 use Rattle.race_run.specs.declared.view.Opening.{Opening}
@@ -40,8 +37,8 @@ returns c =
     let is : c.split_seat-seen.new.seat.me.0 ≡ joined_back c.load_new_seat-seat.result.1.me.0 c.args.passes.items = same ∙ ap (λ (m : Me ℕ View). m.0) c.join.ensures.seat.2 in
     let words : last.0.words ≡ c.give_back.new.words.items = last.2 ∙ sym c.give_back.ensures in
     let rule : IsRunning c.args.self.opening c.give_back.new.words.items last.0.views =
-        subst (λ (o : Opening). IsRunning o c.give_back.new.words.items last.0.views) opening
-        (subst (λ (ws : List ℕ). IsRunning (opening_of c.self.inside.table.shared.key) ws last.0.views) words last.1.0) in
+    subst (λ (o : Opening). IsRunning o c.give_back.new.words.items last.0.views) opening
+    (subst (λ (ws : List ℕ). IsRunning (opening_of c.self.inside.table.shared.key) ws last.0.views) words last.1.0) in
     λ callers all.
     has_closed c.args.self c.args.passes.items callers c.give_back.new.words.items last.0.views c.split_seat-seen.new.seat.id c.load_new_seat-seat.result.1.me.0 c.split_seat-seen.new.seat.me.0
     (record { id = c.split_seat-seen.result.table_id; number = c.split_seat-seen.result.id; view = c.split_seat-seen.result.me.0 })

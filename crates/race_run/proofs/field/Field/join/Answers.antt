@@ -1,7 +1,6 @@
-use Rattle.std.proofs.Common.{◌≡◌, [], List, ℕ, ◌<◌, Some, ap, sym, ◌∙◌, subst, arith}
+use Rattle.std.proofs.Common.{◌≡◌, ℕ, ◌<◌, Some, ap, sym, ◌∙◌, arith}
 use Rattle.atomic_table.specs.Table.{Me}
 use Rattle.gpt_descriptors.specs.Places.{word_count}
-use Rattle.race_run.specs.declared.view.Opening.{Opening}
 use Rattle.race_run.specs.declared.view.View.{View}
 use Rattle.race_run.specs.Passes.{FieldData, PassData}
 use Rattle.race_run.specs.InnerRule.{joined, joined_back, opening_of}

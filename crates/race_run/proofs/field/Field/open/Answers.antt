@@ -31,13 +31,13 @@ returns-clause-passes c =
     let callers : c.in_ok-table.table.shared.key.callers.value.items ≡ c.args.callers.now.items = ap (λ (start : Start). start.callers.value.items) key ∙ ap (λ v. v.items) c.of-2.ensures in
     let geometry : c.in_ok-table.table.shared.key.geometry ≡ c.args.geometry = ap (λ (start : Start). start.geometry) key in
     let words : c.in_ok-table.table.shared.key.words.value ≡ start_words c.args.geometry c.args.tables.now.l1 =
-        ap (λ (start : Start). start.words.value) key ∙ c.of.ensures ∙ c.in_ok-words.ensures.words ∙ ap (start_words c.args.geometry) c.l1.ensures.words in
+    ap (λ (start : Start). start.words.value) key ∙ c.of.ensures ∙ c.in_ok-words.ensures.words ∙ ap (start_words c.args.geometry) c.l1.ensures.words in
     let opening : opening_of c.in_ok-table.table.shared.key ≡ record { geometry = c.args.geometry; words = start_words c.args.geometry c.args.tables.now.l1; callers = c.args.callers.now.items } =
-        λ i. record { geometry = geometry i; words = words i; callers = callers i } in
+    λ i. record { geometry = geometry i; words = words i; callers = callers i } in
     let f : FieldData = record { id = c.in_ok-table.table.shared.table_id; opening = opening_of c.in_ok-table.table.shared.key } in
     are_opened f c.deal.new.passes.items c.args.callers.now.items
     (c.deal.ensures ∙ ap (λ (own : List Caller). map (fresh_seen f) (numbered 0 own)) callers)
     (subst (λ (g : GeometryData). All (IsFresh g) c.args.callers.now.items) (sym geometry) c.requires.fresh)
     (λ d x at.
-        subst (λ (o : Opening). IsMoment o d x []) (sym opening)
-        (opening_moment (record { geometry = c.args.geometry; words = start_words c.args.geometry c.args.tables.now.l1; callers = c.args.callers.now.items }) d x c.requires.starting c.requires.fresh c.requires.numbers at))
+    subst (λ (o : Opening). IsMoment o d x []) (sym opening)
+    (opening_moment (record { geometry = c.args.geometry; words = start_words c.args.geometry c.args.tables.now.l1; callers = c.args.callers.now.items }) d x c.requires.starting c.requires.fresh c.requires.numbers at))
