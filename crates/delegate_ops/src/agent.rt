@@ -1,4 +1,4 @@
-ghost use Rattle.std.specs.Prelude.{◌≡◌, ◌<◌, ◌^◌, ◌+◌, ◌-◌, ◌≤◌, ◌++◌, IfOk, IfSome, IsSome};
+ghost use Rattle.std.specs.Prelude.{◌≡◌, ℕ, ◌<◌, ◌^◌, ◌+◌, ◌-◌, ◌≤◌, ◌++◌, IfOk, IfSome, IsSome};
 ghost use Rattle.std.specs.Prelude.{IsTrue, is_some, not, Some, None, length, drop, false};
 ghost use Rattle.std.specs.Prelude.{slice_get, vec_capacity};
 ghost use Rattle.std.specs.List.{All};
@@ -9,6 +9,7 @@ ghost use Rattle.delegate_ops.specs.InnerAgents.{next_of, after_answer, took_of,
 ghost use Rattle.delegate_ops.specs.InnerAgents.{IsReadable};
 ghost use Rattle.delegate_ops.specs.InnerTransition.{begun, IsUnderWay};
 ghost use Rattle.delegate_ops.specs.InnerRuns.{stored_by, AreNext, IsStoring};
+ghost use Rattle.delegate_ops.specs.InnerTurns.{turned, MayTurn};
 ghost use Rattle.shared_words.specs.Next.{old_by, words_after, MayBeMade};
 
 use crate::deciding::idle_answer;
@@ -191,6 +192,34 @@ impl Agent {
             },
             None => false,
         }
+    }
+
+    /// Whether there is a next act, and it is neither a wait after a wait nor a store of a splitting
+    /// or of merging.
+    fn goes_on(&self) -> bool
+        ensures { IsTrue result → self.now.waited ≡ false }
+    {
+        match &self.transition {
+            Some(transition) => transition.goes_on(),
+            None => false,
+        }
+    }
+
+    /// Its next acts, at most this number, made on the words, and how many they were. It stops before
+    /// a wait after a wait, and before a store of a splitting or of merging; they may be none.
+    pub fn go<W: Words>(&mut self, words: &mut W, most: u32) -> u32
+        requires { (n : ℕ) → n < most → MayTurn (turned n (self.old, W.words words.old)) }
+        ensures turned { (self.new, W.words words.new)
+            ≡ turned result (self.old, W.words words.old) }
+        ensures most { result ≤ most }
+    {
+        for made in 0..most {
+            if !self.goes_on() {
+                return made;
+            }
+            self.turn(words);
+        }
+        most
     }
 
     /// Whether the next act is a store of a splitting or of merging.

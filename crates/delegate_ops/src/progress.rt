@@ -1,5 +1,5 @@
 ghost use Rattle.std.specs.Prelude.{◌≡◌, ◌+◌, ◌^◌, ◌<◌, ◌≤◌, ◌==◌, not, if◌then◌else◌, IsSome};
-ghost use Rattle.std.specs.Prelude.{IsTrue, is_some, None};
+ghost use Rattle.std.specs.Prelude.{IsTrue, is_some, None, false};
 ghost use Rattle.std.specs.Int.Bits.{bit_and};
 ghost use Rattle.gpt_descriptors.specs.Entries.{l1_entry, word_gpi};
 ghost use Rattle.gpt_descriptors.specs.Places.{GeometryData, l1_index_of};
@@ -396,6 +396,13 @@ impl Progress {
             Phase::Merging => self.merging.stores(),
             _ => false,
         }
+    }
+
+    /// Whether the next act is neither a wait after a wait nor a store of a splitting or of merging.
+    pub fn goes_on(&self) -> bool
+        ensures { IsTrue result → waits_in self.now.phase ≡ false }
+    {
+        !self.waits() && !self.stores()
     }
 
     /// The next stores of a splitting or of merging, at most this number, as one run. It goes

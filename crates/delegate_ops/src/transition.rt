@@ -110,6 +110,13 @@ impl Transition {
         self.progress.turn(geometry, &self.places, self.task, words)
     }
 
+    /// Whether the next act is neither a wait after a wait nor a store of a splitting or of merging.
+    pub fn goes_on(&self) -> bool
+        ensures { IsTrue result → self.now.waited ≡ false }
+    {
+        self.progress.goes_on()
+    }
+
     /// Whether the next act is a store of a splitting or of merging.
     pub fn stores(&self) -> bool
         ensures { IsTrue result → IsStoring self.now.stage }
