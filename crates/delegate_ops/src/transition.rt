@@ -31,6 +31,7 @@ impl Model for Transition {
 
 impl Transition {
     /// The transition of a task with acts before its first one.
+    #[inline(never)]
     pub fn new(geometry: &Geometry, task: Task) -> Transition
         requires acts { idle_answer geometry.now task ≡ None }
         requires no_look { is_look task ≡ false }
@@ -45,6 +46,7 @@ impl Transition {
     }
 
     /// The transition of another task with acts, before its first one, in the place of this one.
+    #[inline(always)]
     pub fn restart(&mut self, geometry: &Geometry, task: Task)
         requires acts { idle_answer geometry.now task ≡ None }
         requires no_look { is_look task ≡ false }
