@@ -73,6 +73,18 @@ fn answer_idle(geometry: &Geometry, tasks: &[Task], answers: &mut Vec<Answer>)
     }
 }
 
+/// The transition of a task before its first act, where there was none. It is a function of its own
+/// so that those which go on in the place of one pay for no room for a new one.
+#[inline(never)]
+fn begin_first(geometry: &Geometry, task: Task, transition: &mut Option<Transition>)
+    requires acts { idle_answer geometry.now task ≡ None }
+    requires no_look { is_look task ≡ false }
+    ensures value { transition.new ≡ Some (begun geometry.now task) }
+    ensures is { IsUnderWay geometry.now (Some task) transition.new }
+{
+    *transition = Some(Transition::new(geometry, task));
+}
+
 /// The transition of a task before its first act, in the place of the one before.
 fn begin_task(geometry: &Geometry, task: Task, transition: &mut Option<Transition>)
     requires acts { idle_answer geometry.now task ≡ None }
@@ -82,7 +94,7 @@ fn begin_task(geometry: &Geometry, task: Task, transition: &mut Option<Transitio
 {
     match transition {
         Some(transition) => transition.restart(geometry, task),
-        None => *transition = Some(Transition::new(geometry, task)),
+        None => begin_first(geometry, task, transition),
     }
 }
 

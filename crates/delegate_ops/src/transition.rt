@@ -31,7 +31,6 @@ impl Model for Transition {
 
 impl Transition {
     /// The transition of a task with acts before its first one.
-    #[inline(never)]
     pub fn new(geometry: &Geometry, task: Task) -> Transition
         requires acts { idle_answer geometry.now task ≡ None }
         requires no_look { is_look task ≡ false }
