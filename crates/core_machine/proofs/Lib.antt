@@ -48,4 +48,4 @@ pub mod CallerLaws
 pub mod StillLemmas
 pub mod LeaveLemmas
 pub mod StoreLemmas
-pub mod LookLemmas
+pub mod GoLemmas

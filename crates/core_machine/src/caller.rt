@@ -60,16 +60,17 @@ impl Caller {
         }
     }
 
-    /// Of a processor that begins an access, its first acts, made on the words: all of the access
-    /// where a kept walk decides it. How many they were, at most this number; they may be none.
+    /// Its next acts, at most this number, made on the words in one go, and how many they were: those
+    /// of an agent up to a wait after a wait or a store of a splitting or of merging; and of a processor
+    /// that begins an access, all of it where a kept walk decides it. They may be none.
     #[inline(always)]
-    pub fn look<W: Words>(&mut self, words: &mut W, most: u32) -> u32
+    pub fn go<W: Words>(&mut self, words: &mut W, most: u32) -> u32
         requires { (n : ℕ) → n < most → MayTurn (turned n (self.old, W.words words.old)) }
         ensures turned { (self.new, W.words words.new) ≡ turned result (self.old, W.words words.old) }
         ensures most { result ≤ most }
     {
         match self {
-            Caller::Agent(_) => 0,
+            Caller::Agent(agent) => agent.go(words, most),
             Caller::Cpu(cpu) => cpu.look(words, most),
         }
     }

@@ -76,16 +76,17 @@ impl<W: Words> Machine<W> {
         self.step(caller);
     }
 
-    /// Turns of a processor that begins an access, at most this number: all of the access where a
-    /// kept walk decides it. How many they were; they may be none.
+    /// Turns of a caller that it makes in one go, at most this number, and how many they were: those of
+    /// an agent up to a wait after a wait or a store of a splitting or of merging; and of a processor
+    /// that begins an access, all of it where a kept walk decides it. They may be none.
     #[inline(always)]
-    pub fn look(&mut self, caller: usize, most: u32) -> u32
+    pub fn go(&mut self, caller: usize, most: u32) -> u32
         requires caller { caller < length self.old.callers }
         requires invariant { HasInvariant self.old }
         ensures turns { self.new ≡ after_turns self.old (replicate result caller) }
         ensures most { result ≤ most }
     {
-        self.callers[caller].look(&mut self.words, most)
+        self.callers[caller].go(&mut self.words, most)
     }
 
     /// Whether the next act of a caller is a store of a splitting or of merging.

@@ -56,19 +56,20 @@ pub fn geometry_of(scenario: &Scenario, tables: &Tables) -> Geometry
     geometry
 }
 
-/// The machine of a scenario before the first act, on its built tables.
+/// The machine of a scenario before the first act, on its built tables. Their memory is given back
+/// once their words are among the shared words.
 fn open(
     alloc: Global,
     scenario: &Scenario,
-    tables: &Tables,
+    tables: Tables,
 ) -> Result<Machine<PlainWords>, AllocError>
     requires wellformed { WellFormed scenario.now }
     requires accepted { IsAccepted scenario.now }
-    requires built { tables.now ≡ tables_of scenario.now.setup scenario.now.regions }
+    requires built { tables ≡ tables_of scenario.now.setup scenario.now.regions }
     ensures machine { IfOk result (λ machine. machine ≡ opening_of scenario.now) }
     ensures invariant { IfOk result (λ machine. InvariantFor (first_map scenario.now) machine []) }
 {
-    let geometry = geometry_of(scenario, tables);
+    let geometry = geometry_of(scenario, &tables);
     let callers = callers(alloc, scenario, geometry)?;
     let words = PlainWords::new(alloc, &geometry, tables.l1())?;
     Ok(Machine::new(geometry, callers, words))
@@ -102,7 +103,7 @@ pub fn play(alloc: Global, scenario: &Scenario, tables: Tables) -> Result<Outcom
     ensures size { IfOk result (λ outcome. length outcome.words ≡ word_count outcome.geometry) }
     ensures answered { IfOk result (λ outcome. AreAnswersOf scenario.now.scripts outcome.answers) }
 {
-    let mut machine = open(alloc, scenario, &tables)?;
+    let mut machine = open(alloc, scenario, tables)?;
     let room = Vec::with_capacity(alloc, scenario.scripts.as_slice().len())?;
     machine.schedule(scenario.schedule.as_slice());
     Ok(leave(alloc, machine, room))

@@ -22,9 +22,9 @@ impl<W: Words> Machine<W> {
         if self.stores(caller) {
             return self.run(caller, most);
         }
-        let looks = self.look(caller, most);
-        if looks > 0 {
-            looks
+        let made = self.go(caller, most);
+        if made > 0 {
+            made
         } else if self.step(caller) {
             1
         } else {

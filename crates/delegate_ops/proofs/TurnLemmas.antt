@@ -1,5 +1,5 @@
 -- An agent's turn by that of its transition.
-use Rattle.std.proofs.Common.{◌≡◌, ℕ, List, Bool, true, false, Option, Some, None, length, refl, sym, ap, ◌∙◌, subst}
+use Rattle.std.proofs.Common.{◌≡◌, ◌+◌, ℕ, suc, arith, List, Bool, true, false, Option, Some, None, length, refl, sym, ap, ◌∙◌, subst}
 use Rattle.std.specs.Prelude.{slice_get, is_some, ◌&&◌}
 use Rattle.gpt_descriptors.specs.Places.{GeometryData}
 use Rattle.shared_words.specs.declared.act.Act.{Act}
@@ -10,6 +10,8 @@ use Rattle.delegate_ops.specs.declared.progress.Turned.TheVariants as turned
 use Rattle.delegate_ops.specs.InnerStages.{Stage}
 use Rattle.delegate_ops.specs.InnerAgents.{AgentData, IsAgent, IsStage, IsReadable, next_of, took_of, IsStill}
 use Rattle.delegate_ops.specs.InnerTransition.{TransitionData, IsUnderWay, next_by, is_held_by, answer_by, unended, after_by, turned_at, turned_by}
+use Rattle.delegate_ops.specs.InnerTurns.{turned_once}
+use Rattle.delegate_ops.specs.InnerTurns as turns
 use Rattle.delegate_ops.proofs.TransitionLemmas.{agent_of}
 
 pub goes_unanswered : (o : Option Answer) (again : Bool) → turned_at o again ≡ turned.Goes → o ≡ None
@@ -92,3 +94,10 @@ pub turned_agent : (a b x : AgentData) (d : TransitionData) (words : List ℕ) �
     → x ≡ took_of b (old_by (next_of b) words)
 turned_agent a b x d words is next took =
     took ∙ ap (λ (o : Option Act). took_of a (old_by o words)) next ∙ ap (λ (y : AgentData). took_of y (old_by (next_of y) words)) is
+
+-- after one more turn
+pub turned_more : (n : ℕ) (a b : AgentData) (words later : List ℕ) (s : AgentData × List ℕ) → ◌≡◌ {A = AgentData × List ℕ} (a, words) (turns.turned n s) → b ≡ took_of a (old_by (next_of a) words)
+    → later ≡ words_after (next_of a) words → ◌≡◌ {A = AgentData × List ℕ} (b, later) (turns.turned (n + 1) s)
+turned_more n a b words later s so after made =
+    let once : ◌≡◌ {A = AgentData × List ℕ} (b, later) (turned_once (a, words)) = λ i. (after i, made i) in
+    once ∙ ap turned_once so ∙ ap (λ (j : ℕ). turns.turned j s) (let e : suc n ≡ n + 1 = omega arith in e)

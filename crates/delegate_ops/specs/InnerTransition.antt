@@ -96,14 +96,6 @@ is_held_by p stage.Locking old = not (bit_and old p.lock.mask == 0)
 is_held_by p (stage.Passing c d k) old = not (old == 0)
 is_held_by p s old = false
 
--- the next act writes a word of its granule or a generation around it
-abbrev pub IsWriting : Stage → Type 0
-IsWriting (stage.Preparing k) = Unit {0}
-IsWriting (stage.Changing c k) = Unit {0}
-IsWriting (stage.Raising c z k) = Unit {0}
-IsWriting (stage.Cleaning c l k) = Unit {0}
-IsWriting s = ⊥
-
 -- the answer with which its next act, the release of its lock, ends it
 abbrev pub answer_by : Stage → Option Answer
 answer_by (stage.Releasing given) = Some given

@@ -8,3 +8,4 @@ pub mod InnerTransition
 pub mod InnerScript
 pub mod InnerEntries
 pub mod InnerRuns
+pub mod InnerTurns

@@ -1,4 +1,4 @@
-ghost use Rattle.std.specs.Prelude.{◌≡◌, ◌<◌, ◌^◌, ◌+◌, ◌-◌, ◌≤◌, ◌++◌, IfOk, IfSome, IsSome};
+ghost use Rattle.std.specs.Prelude.{◌≡◌, ℕ, ◌<◌, ◌^◌, ◌+◌, ◌-◌, ◌≤◌, ◌++◌, IfOk, IfSome, IsSome};
 ghost use Rattle.std.specs.Prelude.{IsTrue, is_some, not, Some, None, length, drop, false};
 ghost use Rattle.std.specs.Prelude.{slice_get, vec_capacity};
 ghost use Rattle.std.specs.List.{All};
@@ -9,6 +9,7 @@ ghost use Rattle.delegate_ops.specs.InnerAgents.{next_of, after_answer, took_of,
 ghost use Rattle.delegate_ops.specs.InnerAgents.{IsReadable};
 ghost use Rattle.delegate_ops.specs.InnerTransition.{begun, IsUnderWay};
 ghost use Rattle.delegate_ops.specs.InnerRuns.{stored_by, AreNext, IsStoring};
+ghost use Rattle.delegate_ops.specs.InnerTurns.{turned, MayTurn};
 ghost use Rattle.shared_words.specs.Next.{old_by, words_after, MayBeMade};
 
 use crate::deciding::idle_answer;
@@ -72,6 +73,18 @@ fn answer_idle(geometry: &Geometry, tasks: &[Task], answers: &mut Vec<Answer>)
     }
 }
 
+/// The transition of a task before its first act, where there was none. It is a function of its own
+/// so that those which go on in the place of one pay for no room for a new one.
+#[inline(never)]
+fn begin_first(geometry: &Geometry, task: Task, transition: &mut Option<Transition>)
+    requires acts { idle_answer geometry.now task ≡ None }
+    requires no_look { is_look task ≡ false }
+    ensures value { transition.new ≡ Some (begun geometry.now task) }
+    ensures is { IsUnderWay geometry.now (Some task) transition.new }
+{
+    *transition = Some(Transition::new(geometry, task));
+}
+
 /// The transition of a task before its first act, in the place of the one before.
 fn begin_task(geometry: &Geometry, task: Task, transition: &mut Option<Transition>)
     requires acts { idle_answer geometry.now task ≡ None }
@@ -81,7 +94,7 @@ fn begin_task(geometry: &Geometry, task: Task, transition: &mut Option<Transitio
 {
     match transition {
         Some(transition) => transition.restart(geometry, task),
-        None => *transition = Some(Transition::new(geometry, task)),
+        None => begin_first(geometry, task, transition),
     }
 }
 
@@ -191,6 +204,34 @@ impl Agent {
             },
             None => false,
         }
+    }
+
+    /// Whether there is a next act, and it is neither a wait after a wait nor a store of a splitting
+    /// or of merging.
+    fn goes_on(&self) -> bool
+        ensures { IsTrue result → self.now.waited ≡ false }
+    {
+        match &self.transition {
+            Some(transition) => transition.goes_on(),
+            None => false,
+        }
+    }
+
+    /// Its next acts, at most this number, made on the words, and how many they were. It stops before
+    /// a wait after a wait, and before a store of a splitting or of merging; they may be none.
+    pub fn go<W: Words>(&mut self, words: &mut W, most: u32) -> u32
+        requires { (n : ℕ) → n < most → MayTurn (turned n (self.old, W.words words.old)) }
+        ensures turned { (self.new, W.words words.new)
+            ≡ turned result (self.old, W.words words.old) }
+        ensures most { result ≤ most }
+    {
+        for made in 0..most {
+            if !self.goes_on() {
+                return made;
+            }
+            self.turn(words);
+        }
+        most
     }
 
     /// Whether the next act is a store of a splitting or of merging.

@@ -30,6 +30,7 @@ pub struct Places {
 
 impl Places {
     /// The places of a task with acts.
+    #[inline(always)]
     #[tactic(auto, using(crate::proofs::DecidingLemmas::acts_inside))]
     pub fn new(geometry: &Geometry, task: Task) -> Places
         requires { idle_answer geometry.now task ≡ None }

@@ -1,5 +1,5 @@
 ghost use Rattle.std.specs.Prelude.{◌≡◌, ◌+◌, ◌^◌, ◌<◌, ◌≤◌, ◌==◌, not, if◌then◌else◌, IsSome};
-ghost use Rattle.std.specs.Prelude.{IsTrue, is_some, None};
+ghost use Rattle.std.specs.Prelude.{IsTrue, is_some, None, Some, false, length};
 ghost use Rattle.std.specs.Int.Bits.{bit_and};
 ghost use Rattle.gpt_descriptors.specs.Entries.{l1_entry, word_gpi};
 ghost use Rattle.gpt_descriptors.specs.Places.{GeometryData, l1_index_of};
@@ -20,7 +20,12 @@ ghost use Rattle.delegate_ops.specs.InnerRuns.{IsStoring, MakesRun};
 ghost use Rattle.delegate_ops.specs.declared.places.Places.{Places as ThePlaces};
 ghost use Rattle.delegate_ops.specs.InnerTransition.{IsTransition, act_by, answer_by, after_by};
 ghost use Rattle.delegate_ops.specs.InnerTransition.{next_in, old_in, at_progress, turned_by};
-ghost use Rattle.delegate_ops.specs.InnerTransition.{GoesTo, IsWriting};
+ghost use Rattle.delegate_ops.specs.InnerTransition.{GoesTo, clean_by, word_after, generation_place};
+ghost use Rattle.delegate_ops.specs.Changing.{target_space, space_of_line};
+ghost use Rattle.delegate_ops.specs.declared.stage.Change.TheVariants as the_change;
+ghost use Rattle.gpt_descriptors.specs.Sizes.{generation_in};
+ghost use Rattle.gpt_descriptors.specs.declared.size.Size.TheVariants as size;
+ghost use Rattle.shared_words.specs.declared.act.Act.TheVariants as act;
 
 use crate::blocks::{merging_of, splitting_of};
 use crate::changing::{changed_word, first_change, space_of_line, target_space};
@@ -398,6 +403,17 @@ impl Progress {
         }
     }
 
+    /// Whether the next act is neither a wait after a wait nor a store of a splitting or of merging.
+    pub fn goes_on(&self) -> bool
+        ensures { IsTrue result → waits_in self.now.phase ≡ false }
+    {
+        match self.phase {
+            Phase::Waiting | Phase::Blocked(_) | Phase::Splitting(_) => false,
+            Phase::Merging => !self.merging.stores(),
+            _ => true,
+        }
+    }
+
     /// The next stores of a splitting or of merging, at most this number, as one run. It goes
     /// on as after them. It isn't empty where the next act is such a store.
     pub fn take_run(&mut self, task: Task, most: usize) -> StoreRun
@@ -428,38 +444,85 @@ impl Progress {
         }
     }
 
-    /// The next act, made on the words, where it writes a word of the granule or a generation.
+    /// The line of its target's space is cleaned before the change of a delegate.
     #[inline(always)]
-    fn write<W: Words>(&mut self, geometry: &Geometry, places: &Places, task: Task, words: &mut W)
-        requires transition { IsTransition geometry.now (at_progress task places.now self.old) }
-        requires place { MayBeMade (next_in geometry.now task places.now self.old)
+    fn prepare<W: Words>(&mut self, places: &Places, task: Task, words: &mut W)
+        requires field { places.now.field < 16 }
+        requires place { MayBeMade (Some (clean_by places.now (target_space task)))
             (W.words words.old) }
-        requires writes { IsWriting (stage_of self.old) }
         ensures words { W.words words.new
-            ≡ words_after (next_in geometry.now task places.now self.old) (W.words words.old) }
-        ensures after { GoesTo self.new (stage_after geometry.now task (stage_of self.old) 0) }
+            ≡ words_after (Some (clean_by places.now (target_space task))) (W.words words.old) }
+        ensures after { GoesTo self.new (stage.Changing the_change.Last self.old.kept) }
     {
-        match self.phase {
-            Phase::Preparing => {
-                words.apply(places.clean(target_space(task)));
-                self.phase = Phase::Changing(Change::Last);
-            }
-            Phase::Changing(change) => {
-                let word = changed_word(task, change, places.field, self.kept.word);
-                words.apply(Act::Store(places.word, word));
-                self.changed(change, word);
-            }
-            Phase::Raising(change, size) => {
-                let value = self.kept.generations.get(size) + 1;
-                words.apply(Act::Store(places.generation(size), value));
-                self.raised(geometry, task, change, size, value);
-            }
-            Phase::Cleaning(change, line) => {
-                words.apply(places.clean(space_of_line(task, change, line)));
-                self.cleaned(geometry, task, change, line);
-            }
-            _ => {}
-        }
+        words.apply(places.clean(target_space(task)));
+        self.phase = Phase::Changing(Change::Last);
+    }
+
+    /// The L1 word is written with this change.
+    #[inline(always)]
+    fn change<W: Words>(&mut self, places: &Places, task: Task, change: Change, words: &mut W)
+        requires field { places.now.field < 16 }
+        requires place { places.now.word < length (W.words words.old) }
+        ensures words { W.words words.new ≡ words_after (Some (act.Store places.now.word
+            (word_after places.now task change self.old.kept.word))) (W.words words.old) }
+        ensures after { GoesTo self.new (stage.Raising change size.Two (record {
+          word = word_after places.now task change self.old.kept.word;
+          generations = self.old.kept.generations;
+        })) }
+    {
+        let word = changed_word(task, change, places.field, self.kept.word);
+        words.apply(Act::Store(places.word, word));
+        self.changed(change, word);
+    }
+
+    /// The generation of this size is raised after a change.
+    #[inline(always)]
+    fn raise<W: Words>(
+        &mut self,
+        geometry: &Geometry,
+        places: &Places,
+        task: Task,
+        change: Change,
+        size: Size,
+        words: &mut W,
+    )
+        requires acts { idle_answer geometry.now task ≡ None }
+        requires room { generation_in size self.old.kept.generations + 1 < 2 ^ 64 }
+        requires place { generation_place places.now size < length (W.words words.old) }
+        ensures words { W.words words.new
+            ≡ words_after (Some (act.Store (generation_place places.now size)
+            (generation_in size self.old.kept.generations + 1))) (W.words words.old) }
+        ensures after { GoesTo self.new (raised_stage geometry.now task change size
+            (kept_read size (generation_in size self.old.kept.generations + 1) self.old.kept)) }
+    {
+        let value = self.kept.generations.get(size) + 1;
+        words.apply(Act::Store(places.generation(size), value));
+        self.raised(geometry, task, change, size, value);
+    }
+
+    /// This line is cleaned after a change.
+    #[inline(always)]
+    fn clean<W: Words>(
+        &mut self,
+        geometry: &Geometry,
+        places: &Places,
+        task: Task,
+        change: Change,
+        line: Line,
+        words: &mut W,
+    )
+        requires acts { idle_answer geometry.now task ≡ None }
+        requires field { places.now.field < 16 }
+        requires place { MayBeMade (Some (clean_by places.now (space_of_line task change line)))
+            (W.words words.old) }
+        ensures words { W.words words.new
+            ≡ words_after (Some (clean_by places.now (space_of_line task change line)))
+            (W.words words.old) }
+        ensures after { GoesTo self.new
+            (cleaned_stage geometry.now task change line self.old.kept) }
+    {
+        words.apply(places.clean(space_of_line(task, change, line)));
+        self.cleaned(geometry, task, change, line);
     }
 
     /// The next act, made on the words, with what comes of it. A wait has a short way.
@@ -510,8 +573,13 @@ impl Progress {
                     self.split(task, size);
                 }
             }
-            Phase::Preparing | Phase::Changing(_) | Phase::Raising(..) | Phase::Cleaning(..) => {
-                self.write(geometry, places, task, words);
+            Phase::Preparing => self.prepare(places, task, words),
+            Phase::Changing(change) => self.change(places, task, change, words),
+            Phase::Raising(change, size) => {
+                self.raise(geometry, places, task, change, size, words);
+            }
+            Phase::Cleaning(change, line) => {
+                self.clean(geometry, places, task, change, line, words);
             }
             Phase::Passing(change) | Phase::Blocked(change) => {
                 let waited = self.waits();

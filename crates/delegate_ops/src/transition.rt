@@ -45,6 +45,7 @@ impl Transition {
     }
 
     /// The transition of another task with acts, before its first one, in the place of this one.
+    #[inline(always)]
     pub fn restart(&mut self, geometry: &Geometry, task: Task)
         requires acts { idle_answer geometry.now task ≡ None }
         requires no_look { is_look task ≡ false }
@@ -108,6 +109,13 @@ impl Transition {
         ensures transition { IsTransition geometry.now self.new }
     {
         self.progress.turn(geometry, &self.places, self.task, words)
+    }
+
+    /// Whether the next act is neither a wait after a wait nor a store of a splitting or of merging.
+    pub fn goes_on(&self) -> bool
+        ensures { IsTrue result → self.now.waited ≡ false }
+    {
+        self.progress.goes_on()
     }
 
     /// Whether the next act is a store of a splitting or of merging.

@@ -14,18 +14,18 @@ new-requires-2-clause-numbers c =
 pub new-requires-2-clause-starting : goal.new-requires-2-clause-starting
 new-requires-2-clause-starting c = (
   first_map c.args.scenario.now,
-  starts_at c.args.scenario.now c.geometry_of-geometry.result c.args.tables.now c.l1.result.now c.in_ok-words.words c.requires.accepted c.geometry_of-geometry.ensures.geometry c.geometry_of-geometry.ensures.known
+  starts_at c.args.scenario.now c.geometry_of-geometry.result c.args.tables c.l1.result.now c.in_ok-words.words c.requires.accepted c.geometry_of-geometry.ensures.geometry c.geometry_of-geometry.ensures.known
       c.requires.built c.l1.ensures.tables c.l1.ensures.words c.in_ok-words.ensures.words,
 )
 
 pub returns-clause-machine : goal.returns-clause-machine
 returns-clause-machine c =
     c.new-2.ensures.machine
-    ∙ opened_is c.args.scenario.now c.geometry_of-geometry.result c.args.tables.now c.l1.result.now c.in_ok-words.words c.in_ok-callers.callers.items c.geometry_of-geometry.ensures.geometry c.requires.built
+    ∙ opened_is c.args.scenario.now c.geometry_of-geometry.result c.args.tables c.l1.result.now c.in_ok-words.words c.in_ok-callers.callers.items c.geometry_of-geometry.ensures.geometry c.requires.built
     c.l1.ensures.words c.in_ok-words.ensures.words c.in_ok-callers.ensures
 
 pub returns-clause-invariant : goal.returns-clause-invariant
 returns-clause-invariant c =
     c.new-2.ensures.invariant (first_map c.args.scenario.now)
-    (starts_at c.args.scenario.now c.geometry_of-geometry.result c.args.tables.now c.l1.result.now c.in_ok-words.words c.requires.accepted c.geometry_of-geometry.ensures.geometry c.geometry_of-geometry.ensures.known
+    (starts_at c.args.scenario.now c.geometry_of-geometry.result c.args.tables c.l1.result.now c.in_ok-words.words c.requires.accepted c.geometry_of-geometry.ensures.geometry c.geometry_of-geometry.ensures.known
     c.requires.built c.l1.ensures.tables c.l1.ensures.words c.in_ok-words.ensures.words)
