@@ -31,7 +31,11 @@ pub fn count_cpus(scripts: &[Script]) -> usize
 }
 
 /// Moves the answers of all callers, in their order, into the room for them.
-pub fn answers_of(alloc: Global, callers: Vec<Caller>, room: Vec<Listed<Answer>>) -> Vec<Listed<Answer>>
+pub fn answers_of(
+    alloc: Global,
+    callers: Vec<Caller>,
+    room: Vec<Listed<Answer>>,
+) -> Vec<Listed<Answer>>
     requires empty { room.items ≡ [] }
     requires room { length callers.items ≤ vec_capacity room }
     ensures { result.items ≡ map caller_answers callers.items }

@@ -6,7 +6,8 @@ use std::sync::atomic::{AtomicBool, Ordering};
 use std::test::Fail;
 
 /// An agent that splits 512 MB, and a processor with accesses elsewhere in it.
-const APART: &[u8] = b"gpt 1\nspace 4\nmax 512\nlocks 1\nfirst 0\nring 8\ntables 1\nbase 0x80000000\n\
+const APART: &[u8] =
+    b"gpt 1\nspace 4\nmax 512\nlocks 1\nfirst 0\nring 8\ntables 1\nbase 0x80000000\n\
 region 0x0 0x40000000 granule nonsecure\nagent\ndelegate 0x200000 realm\ncpu\n\
 look 0x20000000 nonsecure\nlook 0x20000000 nonsecure\nlook 0x20000000 nonsecure\nend\n";
 

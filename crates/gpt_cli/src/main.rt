@@ -22,13 +22,13 @@ pub use program::still;
 use race_run::OpenGate;
 pub use reply::Reply;
 pub use status::Status;
-pub use top::top;
 use std::alloc::{AllocError, Global};
 use std::env;
 use std::io::{ErrorKind, Read, Write};
 use std::process::ExitCode;
 use std::sync::Wait;
 use std::thread::Threads;
+pub use top::top;
 
 /// The words after the program's name. A word that isn't UTF-8 counts as no words at all.
 ///
@@ -61,14 +61,7 @@ fn run<R: Threads + Wait + Sync, I: Read + Drop, O: Write + Drop>(
     }
     let mut source = StdSource::new(input);
     let mut sink = StdSink::new(output);
-    Ok(top(
-        rt,
-        alloc,
-        &texts,
-        &mut source,
-        &mut sink,
-        &OpenGate,
-    ))
+    Ok(top(rt, alloc, &texts, &mut source, &mut sink, &OpenGate))
 }
 
 fn main(rt: HostRuntime) -> ExitCode {
