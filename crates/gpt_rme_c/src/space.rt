@@ -1,6 +1,5 @@
-ghost use Rattle.std.specs.Prelude.{◌≡◌, ◌<◌, IfSome};
+ghost use Rattle.std.specs.Prelude.{◌≡◌, Some};
 ghost use Rattle.gpt_descriptors.specs.Places.{word_count};
-ghost use Rattle.gpt_descriptors.specs.Sizes.{space_bytes};
 ghost use Rattle.gpt_rme_c.specs.Codes.{done_or, written, bad_data};
 ghost use Rattle.gpt_rme_c.specs.Spaces.{max_with, in_range, setup_with, geometry_in, geometry_with};
 ghost use Rattle.gpt_rme_c.specs.Spaces.{places_in, places_code, places_found};
