@@ -45,27 +45,6 @@ delegate 0x0 realm\nundelegate 0x0 realm\nturn 0 4\nend\n";
 const LEFT: &[u8] = b"report 1 play\n0.0 inval\n0.1 inval\n0.2 perm secure\nleft 0 1\nheld 0\n\
 l0 0 1 0x80000003\nl0 1 3 0xf1\nl1 0 0 16384 0x8888888888888888\nend\n";
 
-/// An agent and a processor in turns, with a change between two accesses of one granule.
-const TURNS: &[u8] = b"gpt 1\nspace 4\nmax 0\nlocks 1\nfirst 0\nring 8\ntables 1\nbase 0x80000000\n\
-region 0x0 0x40000000 granule nonsecure\nagent\ndelegate 0x200000 realm\ncpu\n\
-look 0x200000 nonsecure\nlook 0x200000 nonsecure\nlook 0x200000 nonsecure\nturn 1 8\n\
-turn 0 7\nturn 1 4\nturn 0 6\nturn 1 8\nend\n";
-
-const TURNS_REPORT: &[u8] = b"report 1 play\n0.0 done 1 1 1\n1.0 granted nonsecure 1 cold 64k 0 0\n\
-1.1 granted nonsecure 1 hit 64k 0\n1.2 fault realm 1 missed 64k 0 1 64k 1 1\n\
-l0 0 1 0x80000003\nl0 1 3 0xf1\nl1 0 0 32 0x9999999999999999\n\
-l1 0 32 1 0x999999999999999b\nl1 0 33 16351 0x9999999999999999\ngen 2m 1 1\n\
-gen 32m 0 1\ngen 512m 0 1\nend\n";
-
-/// The head and the regions of a board of four spaces.
-const BOARD: &str = "gpt 1\nspace 4\nmax 512\nlocks 1\nfirst 0\nring 8\ntables 3\nbase 0xc0000000\n\
-region 0xc0000000 0x40000000 block root\nregion 0x0 0x40000000 granule secure\n\
-region 0x40000000 0x60000000 granule nonsecure\nregion 0xa0000000 0x20000000 granule realm\n";
-
-const BOARD_REPORT: &[u8] = b"report 1 tables\nl0 0 1 0xc0000003\nl0 1 1 0xc0020003\n\
-l0 2 1 0xc0040003\nl0 3 1 0xa1\nl1 0 0 16384 0x381\nl1 1 0 16384 0x391\nl1 2 0 8192 0x391\n\
-l1 2 8192 8192 0x3b1\nend\n";
-
 const USAGE: &[u8] = b"usage: gpt_cli tables | play | race | load N\n";
 
 /// A source of this text whose read of this number fails, counted from 1; for 0 none fails.
@@ -77,42 +56,6 @@ fn source(alloc: Global, text: &[u8], failing: u64) -> Result<MemorySource, Allo
 /// fails, counted from 1; for 0 none fails.
 fn sink(alloc: Global, room: usize, failing: u64) -> Result<MemorySink, AllocError> {
     MemorySink::new(alloc, 10, room, vec![in alloc; failing]?)
-}
-
-/// Each 250 granules from an address on, in lines that begin and end with these words.
-fn push_calls(
-    alloc: Global,
-    text: &mut String,
-    first: u64,
-    calls: &[(&str, &str)],
-) -> Result<(), AllocError> {
-    for k in 0..250u64 {
-        let address = first.saturating_add(k.saturating_mul(0x1000));
-        for (call, of) in calls {
-            text.push_str(&format!(in alloc; "{call} 0x{address:x} {of}\n")?)?;
-        }
-    }
-    Ok(())
-}
-
-/// The text of the board, with two agents and four processors of 2,000 calls, and no schedule.
-fn board(alloc: Global) -> Result<Vec<u8>, AllocError> {
-    let mut text = String::from_str(alloc, BOARD)?;
-    for (first, source) in [(0x4000_0000u64, "realm"), (0x6000_0000, "secure")] {
-        text.push_str("agent\n")?;
-        push_calls(
-            alloc,
-            &mut text,
-            first,
-            &[("delegate", source), ("undelegate", source)],
-        )?;
-    }
-    for _ in 0..4 {
-        text.push_str("cpu\n")?;
-        push_calls(alloc, &mut text, 0x8000_0000, &[("look", "nonsecure")])?;
-    }
-    text.push_str("end\n")?;
-    Ok(text.into_bytes())
 }
 
 /// The status of a run over memory with these words.
@@ -163,46 +106,15 @@ fn a_failed_read_leaves_the_sink_empty(rt: HostRuntime) -> Result<(), Fail> {
 }
 
 #[test]
-fn a_failed_read_of_a_long_input_leaves_the_sink_empty(rt: HostRuntime) -> Result<(), Fail> {
-    let alloc = rt.alloc();
-    let input = board(alloc)?;
-    assert_eq!(rt; input.len(), 53_769);
-    // Fourteen pieces, and the end.
-    for command in ["tables", "play"] {
-        for failing in 1..=15u64 {
-            let mut source = source(alloc, &input, failing)?;
-            let mut sink = sink(alloc, BOARD_REPORT.len(), 0)?;
-            assert_eq!(rt;
-                status(alloc, &[command], &mut source, &mut sink),
-                3,
-                "at {failing}"
-            );
-            assert_eq!(rt; (source.reads(), sink.writes()), (failing, 0));
-        }
-    }
-    let mut source = source(alloc, &input, 16)?;
-    let mut sink = sink(alloc, BOARD_REPORT.len(), 0)?;
-    assert_eq!(rt; status(alloc, &["tables"], &mut source, &mut sink), 0);
-    assert_eq!(rt; sink.taken(), BOARD_REPORT);
-    assert_eq!(rt; source.reads(), 15);
-    Ok(())
-}
-
-#[test]
 fn a_failed_write_cuts_the_text_where_it_comes(rt: HostRuntime) -> Result<(), Fail> {
     let alloc = rt.alloc();
-    // Ten bytes at a time.
-    let table = [
-        ("tables", SCENARIO, REPORT, 7u64),
-        ("tables", BAD_BASE, BASE_LINE, 2),
-        ("play", TURNS, TURNS_REPORT, 31),
-    ];
-    for (command, input, text, writes) in table {
+    // Ten bytes at a time: the report takes seven writes and the line of a bad base two.
+    for (input, text, writes) in [(SCENARIO, REPORT, 7u64), (BAD_BASE, BASE_LINE, 2)] {
         for failing in 1..=writes {
             let mut source = source(alloc, input, 0)?;
             let mut sink = sink(alloc, text.len(), failing)?;
             assert_eq!(rt;
-                status(alloc, &[command], &mut source, &mut sink),
+                status(alloc, &["tables"], &mut source, &mut sink),
                 4,
                 "at {failing}"
             );
@@ -217,18 +129,13 @@ fn a_failed_write_cuts_the_text_where_it_comes(rt: HostRuntime) -> Result<(), Fa
 #[test]
 fn a_full_sink_cuts_the_text_at_its_room(rt: HostRuntime) -> Result<(), Fail> {
     let alloc = rt.alloc();
-    let table = [
-        ("tables", SCENARIO, REPORT, 0),
-        ("tables", BAD_BASE, BASE_LINE, 1),
-        ("play", TURNS, TURNS_REPORT, 0),
-    ];
-    for (command, input, text, whole) in table {
+    for (input, text, whole) in [(SCENARIO, REPORT, 0), (BAD_BASE, BASE_LINE, 1)] {
         for room in 0..=text.len() {
             let mut source = source(alloc, input, 0)?;
             let mut sink = sink(alloc, room, 0)?;
             let want = if room < text.len() { 4 } else { whole };
             assert_eq!(rt;
-                status(alloc, &[command], &mut source, &mut sink),
+                status(alloc, &["tables"], &mut source, &mut sink),
                 want,
                 "at {room}"
             );
