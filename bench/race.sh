@@ -12,15 +12,15 @@
 #
 # `64 GB`: 32 agents, each on a lock block of its own of a space of 64 GB with 16 tables. One of them has calls, or four have
 # as many each, which on four processors should take little longer.
-# They split and merge 512 MB, or with `max 0` change single words, whose text is nearly 1 MB. The time of the same text is
+# They split and merge 512 MB, and 32 MB by `max 32`, where the text is nearly 1 MB. The time of the same text is
 # taken off in which no address is aligned, so that each call is read, answered at once and printed.
 set -euo pipefail
 export LC_ALL=C
 
 readonly program=${1:?usage: bench/race.sh PROGRAM [RUNS]}
 readonly runs=${2:-9}
-# Pairs of an agent: of splittings and mergings, and of single words, of which four have a text of nearly 1 MB.
-readonly split_pairs=100 word_pairs=4400
+# Pairs of an agent: of 512 MB, and of 32 MB, of which four agents have a text of nearly 1 MB.
+readonly split_pairs=100 small_pairs=4400
 failed=0
 
 folder=$(mktemp -d)
@@ -140,6 +140,6 @@ scale_lines() {
 echo
 printf '%-52s %10s %10s %10s\n' '64 GB, 32 agents on lock blocks of their own' calls 'time ms' 'ns/call'
 scale_lines 512 "$split_pairs" 'splitting and merging of 512 MB'
-scale_lines 0 "$word_pairs" 'single words'
+scale_lines 32 "$small_pairs" 'splitting and merging of 32 MB'
 
 exit "$failed"
