@@ -24,6 +24,8 @@ failed=0
     "$here/parse.sh" "$program" || echo "above a limit: parse"
     echo
     "$here/load.py" "$program" "$runs" || echo "above a limit: load"
+    echo
+    "$here/race.sh" "$program" "$runs" || echo "above a limit: race"
 } | tee "$output"
 echo
 grep -E ' at most |above a limit' "$output"
