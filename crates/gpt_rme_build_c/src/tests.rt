@@ -143,7 +143,7 @@ fn each_cause_has_its_code(rt: HostRuntime) {
             rt.alloc(),
             &setup,
             regions.as_slice(),
-            &mut l0[..words],
+            &mut l0[..words.min(4)],
             l1.as_mut_slice(),
             &mut told,
         );
