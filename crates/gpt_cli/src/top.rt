@@ -120,6 +120,7 @@ pub fn top<R: Threads + Wait + Sync, S: Source, K: Sink, G: Gate + Sync>(
         × Keeps (K.held sink.old) (K.held sink.new) × (K.faults sink.new ≡ K.faults sink.old) }
     ensures limit { (bytes : List ℕ) × (length bytes ≤ INPUT_LIMIT + 1)
         × Consumes (S.left source.old) (S.left source.new) bytes }
+    ensures limit_number { INPUT_LIMIT ≡ 1048576 }
 {
     if is_race(words) {
         run_race(rt, alloc, source, sink, gate)

@@ -219,6 +219,7 @@ has_closed f passes callers words views id v w left rule at is opening all mine 
       begins = λ c p there.
           let begins = told_each (Begins rule.history) v passes c p (subst (λ (t : View). All (Begins rule.history) t.told) is (knows f.opening words views id w callers ended).told) there in
           (begins.0, sym (sees_whole f.opening words views id w callers ended ∙ seen) ∙ begins.1);
+      own = λ c x there. subst (λ (h : List Entry). entries_by c h ≡ own_of c x) seen (is_held f.opening words views id w callers ended c x there).1;
       starting = rule.starting;
       tasks = same_tasks callers f.opening.callers given;
       within = λ c x there. none_more f.opening.geometry c x (made c x there);

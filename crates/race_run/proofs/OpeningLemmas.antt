@@ -13,7 +13,7 @@ use Rattle.delegate_ops.specs.InnerAgents.{AgentData}
 use Rattle.processor.specs.InnerCpus.{CpuData}
 use Rattle.core_machine.specs.declared.caller.Caller.{Caller}
 use Rattle.core_machine.specs.declared.caller.Caller.TheVariants as caller
-use Rattle.core_machine.specs.InnerCallers.{IsCallerOf, IsFresh, caller_answers}
+use Rattle.core_machine.specs.InnerCallers.{IsCallerOf, IsFresh, caller_answers, caller_tasks}
 use Rattle.core_machine.specs.InnerInvariant.{NumbersDiffer}
 use Rattle.core_machine.specs.InnerOpening.{AreStarting}
 use Rattle.core_machine.proofs.MomentLemmas.{fresh_are_made, scenes_begin, scenes_fit}
@@ -87,6 +87,7 @@ opening_moment o c x starting is differ at =
       answers = map caller_answers o.callers;
       words = o.words;
       starting = starting;
+      tasks = slice_get-map caller_tasks o.callers c ∙ ap (λ (b : Option Caller). option_map caller_tasks b) at;
       own = slice_get-map caller_answers o.callers c ∙ ap (λ (b : Option Caller). option_map caller_answers b) at;
       entries = (scenes_begin o.geometry starting.0 o.callers o.words is differ starting.1).history.own c x at;
       fits = λ first starts.

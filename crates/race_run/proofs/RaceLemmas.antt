@@ -109,4 +109,5 @@ module _ (s : Scenario) (f : FieldData) (passes : List PassData) (callers : List
     answered =
         subst (λ (tasks : List (List Task)). AllAnswered tasks o.answers) given_tasks
         (subst (AllAnswered (map caller_tasks f.opening.callers)) (sym raced.answers) (raced.closed.answered raced.ended));
+    within = raced_answers;
   }

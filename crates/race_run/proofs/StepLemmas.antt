@@ -120,6 +120,7 @@ module _ (o : Opening) (words : List ℕ) (views : List View) (id c : ℕ) (x : 
     answers = map caller_answers callers;
     words = words;
     starting = acting.rule.starting;
+    tasks = ap (λ (tasks : List (List Task)). slice_get tasks c) (sym (same_tasks callers o.callers acting.rule.given)) ∙ slice_get-map caller_tasks callers c ∙ ap (λ (b : Option Caller). option_map caller_tasks b) mine.0;
     own = slice_get-map caller_answers callers c ∙ ap (λ (b : Option Caller). option_map caller_answers b) mine.0;
     entries = ap (entries_by c) found_seen ∙ (acting.rule.holds acting.rule.starting.0 acting.rule.starting.1).history.own c x mine.0;
     fits = λ first starting.
@@ -133,6 +134,9 @@ module _ (o : Opening) (words : List ℕ) (views : List View) (id c : ℕ) (x : 
     answers = map caller_answers new_callers;
     words = after_act t words;
     starting = acting.rule.starting;
+    tasks =
+        ap (λ (tasks : List (List Task)). slice_get tasks c) (sym (same_tasks new_callers o.callers still_given)) ∙ slice_get-map caller_tasks new_callers c
+        ∙ ap (λ (b : Option Caller). option_map caller_tasks b) (get_set_here callers c x (caller_took x old) mine.0);
     own = slice_get-map caller_answers new_callers c ∙ ap (λ (b : Option Caller). option_map caller_answers b) (get_set_here callers c x (caller_took x old) mine.0);
     entries = own_entries;
     fits = λ first starting.

@@ -1,10 +1,12 @@
 -- A turn by a pass: its caller is ready, and the pass is still one of its field after it.
-use Rattle.std.proofs.Common.{◌≡◌, ℕ, Some, sym, ap, ◌∙◌, subst}
+use Rattle.std.proofs.Common.{◌≡◌, ℕ, List, ◌++◌, Some, append_assoc, sym, ap, ◌∙◌, subst}
 use Rattle.gpt_descriptors.specs.Places.{word_count}
 use Rattle.shared_words.specs.declared.act.Act.{Act}
+use Rattle.history.specs.declared.entry.Entry.{Entry}
 use Rattle.core_machine.specs.declared.caller.Caller.{Caller}
-use Rattle.core_machine.specs.InnerCallers.{caller_next, caller_took}
+use Rattle.core_machine.specs.InnerCallers.{caller_next, caller_took, made_by}
 use Rattle.core_machine.proofs.CallerLaws.{acts_keep}
+use Rattle.race_run.specs.declared.view.Opening.{Opening}
 use Rattle.race_run.specs.declared.view.View.{View}
 use Rattle.race_run.specs.Passes.{FieldData, IsPassOf, PassData}
 use Rattle.race_run.specs.Turns.{HasActed}
@@ -35,3 +37,13 @@ passes_on f g p q r c old x y field pass id acted becomes own =
 pub acted_by : (f g : FieldData) (p q r : PassData) (c old : ℕ) (x : Caller) → f ≡ g → q ≡ p → HasActed f.opening c x old q.view r.view → HasActed g.opening c x old p.view r.view
 acted_by f g p q r c old x field pass acted =
     subst (λ (a : FieldData). HasActed a.opening c x old p.view r.view) field (subst (λ (b : PassData). HasActed f.opening c x old b.view r.view) pass acted)
+
+-- what was seen before an act begins what is seen after it
+pub sees_more : (o : Opening) (c old : ℕ) (x : Caller) (first : List Entry) (v w : View) → ((rest : List Entry) × (v.seen ≡ first ++ rest)) → HasActed o c x old v w → (rest : List Entry) × (w.seen ≡ first ++ rest)
+sees_more o c old x first v w before acted = (
+  (before.0 ++ acted.between) ++ made_by c x old,
+  ap (λ (u : View). u.seen) acted.view
+      ∙ ap (λ (es : List Entry). (es ++ acted.between) ++ made_by c x old) before.1
+      ∙ ap (λ (es : List Entry). es ++ made_by c x old) (append_assoc first before.0 acted.between)
+      ∙ append_assoc first (before.0 ++ acted.between) (made_by c x old),
+)

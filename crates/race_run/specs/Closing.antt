@@ -2,8 +2,9 @@
 use Rattle.std.specs.Prelude.{◌≡◌, ◌≤◌, ℕ, List, ◌++◌, [], length, map, slice_get, Some, None}
 use Rattle.gpi_values.specs.declared.gpi.Gpi.{Gpi}
 use Rattle.history.specs.declared.entry.Entry.{Entry}
+use Rattle.history.specs.Calls.{entries_by}
 use Rattle.core_machine.specs.declared.caller.Caller.{Caller}
-use Rattle.core_machine.specs.InnerCallers.{caller_answers, caller_next, caller_tasks}
+use Rattle.core_machine.specs.InnerCallers.{caller_answers, caller_next, caller_tasks, own_of}
 use Rattle.core_machine.specs.InnerOpening.{AreStarting}
 use Rattle.core_machine.specs.Facts.{AllAnswered, FitsHistory}
 use Rattle.race_run.specs.Passes.{AreOn, FieldData, PassData}
@@ -23,6 +24,9 @@ pub record HasClosed (f : FieldData) (passes : List PassData) (callers : List Ca
   pub nobody : left.view.held ≡ []
   pub begins : (c : ℕ) (p : PassData) → slice_get passes c ≡ Some p
       → (rest : List Entry) × (left.view.seen ≡ p.view.seen ++ rest)
+  -- and of each caller's entries it has just those that the caller has made
+  pub own : (c : ℕ) (x : Caller) → slice_get callers c ≡ Some x
+      → entries_by c left.view.seen ≡ own_of c x
   pub starting : (first : List Gpi) × AreStarting f.opening.geometry first f.opening.words
   pub fits : (first : List Gpi) → AreStarting f.opening.geometry first f.opening.words
       → FitsHistory f.opening.geometry first (map caller_tasks f.opening.callers)

@@ -45,14 +45,26 @@ NothingIsLeftAtDone =
     → IsCleaned (scene_in o words views rule first) (granule_of_task o.geometry t)
     × HasNothingLeft o.geometry (scene_in o words views rule first) (granule_of_task o.geometry t)
 
--- and so it stays at each act, of whomever, that doesn't change it
+-- at any moment a granule that is cleaned has nothing left
+abbrev pub CleanedIsNothingLeft : Type 0
+CleanedIsNothingLeft =
+    (o : Opening) (words : List ℕ) (views : List View) (granule : ℕ) (first : List Gpi)
+    (rule : IsRunning o words views) → AreStarting o.geometry first o.words
+    → IsCleaned (scene_in o words views rule first) granule
+    → HasNothingLeft o.geometry (scene_in o words views rule first) granule
+
+-- and it stays cleaned, and has nothing left, at each act, of whomever, that doesn't change it
 abbrev pub NothingStaysLeft : Type 0
 NothingStaysLeft =
     (o : Opening) (words : List ℕ) (views : List View) (id c granule : ℕ) (v : View) (x : Caller)
     (t : Act) (first : List Gpi) (rule : IsRunning o words views)
     → get_elem? views id ≡ some v → slice_get v.held 0 ≡ Some (c, x) → caller_next x ≡ Some t
     → list_any (changes_granule granule) (made_by c x (answer_of t words)) ≡ false
+    → AreStarting o.geometry first o.words
     → IsCleaned (scene_in o words views rule first) granule
     → IsCleaned (scene_after (scene_in o words views rule first) c
+    (caller_took x (answer_of t words)) (after_act t words) (made_by c x (answer_of t words)))
+    granule
+    × HasNothingLeft o.geometry (scene_after (scene_in o words views rule first) c
     (caller_took x (answer_of t words)) (after_act t words) (made_by c x (answer_of t words)))
     granule

@@ -25,12 +25,13 @@ use Rattle.race_run.specs.declared.view.Opening.{Opening}
 use Rattle.race_run.specs.declared.view.View.{View}
 
 -- A moment of a run: from each first map that the tables mean, and they mean one, the answers of all
--- callers and the shared words fit the history so far. Caller c is x, and of its own entries the history
--- has just those that it has made.
+-- callers and the shared words fit the history so far. Caller c is x, with the tasks that it was opened
+-- with, and of its own entries the history has just those that it has made.
 pub record IsMoment (o : Opening) (c : ℕ) (x : Caller) (h : List Entry) : Type 0 where
   pub answers : List (List Answer)
   pub words : List ℕ
   pub starting : (first : List Gpi) × AreStarting o.geometry first o.words
+  pub tasks : slice_get (map caller_tasks o.callers) c ≡ Some (caller_tasks x)
   pub own : slice_get answers c ≡ Some (caller_answers x)
   pub entries : entries_by c h ≡ own_of c x
   pub fits : (first : List Gpi) → AreStarting o.geometry first o.words
@@ -61,7 +62,7 @@ pub record HasAccessOf (o : Opening) (p : ℕ) : Type 0 where
   pub asked : slice_get cpu.tasks call ≡ Some task
   pub acts : idle_answer o.geometry task ≡ None
 
--- An agent that its next act leaves waiting is about to take a lock that another agent's calls use, or
+-- Why the next act of an agent may leave it waiting: it takes a lock that another agent's calls use, or
 -- its barrier has come to a processor that has an access.
 abbrev pub HasCause : Opening → ℕ → Caller → Type 0
 HasCause o c (caller.Agent a) =

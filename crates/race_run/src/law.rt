@@ -1,4 +1,4 @@
-ghost use Rattle.race_run.specs.NothingLeft.{NothingIsLeftAtDone, NothingStaysLeft};
+ghost use Rattle.race_run.specs.NothingLeft.{CleanedIsNothingLeft, NothingIsLeftAtDone, NothingStaysLeft};
 
 /// When a transition on the shared words is done, nothing is left of its granule's former space, at any
 /// moment that keeps the rule: where a caller is about to answer that it is done, no caller has the granule
@@ -7,5 +7,6 @@ ghost use Rattle.race_run.specs.NothingLeft.{NothingIsLeftAtDone, NothingStaysLe
 /// the granule again. No call of one pass can say it of another's ring.
 pub fn nothing_is_left_at_done()
     ensures done { NothingIsLeftAtDone }
+    ensures settled { CleanedIsNothingLeft }
     ensures stays { NothingStaysLeft }
 {}

@@ -108,7 +108,9 @@ pub fn race<R: Threads + Wait + Sync, G: Gate + Sync>(
     requires wellformed { WellFormed scenario.now }
     requires accepted { IsAccepted scenario.now }
     requires built { tables ≡ tables_of scenario.now.setup scenario.now.regions }
+    // Each call is answered, and answers and words fit the history that the pass has seen.
     ensures raced { IfOk result (λ raced. HasRaced scenario.now raced.0 raced.1.view.seen) }
+    // What a report asks of an outcome.
     ensures size { IfOk result (λ raced. length raced.0.words ≡ word_count raced.0.geometry) }
     ensures answered { IfOk result (λ raced. AreAnswersOf scenario.now.scripts raced.0.answers) }
 {

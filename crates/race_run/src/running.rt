@@ -1,4 +1,5 @@
-ghost use Rattle.std.specs.Prelude.{◌≡◌, ℕ, None};
+ghost use Rattle.std.specs.Prelude.{◌≡◌, ◌++◌, ℕ, List, None};
+ghost use Rattle.history.specs.declared.entry.Entry.{Entry};
 ghost use Rattle.core_machine.specs.InnerCallers.{caller_next};
 ghost use Rattle.race_run.specs.Passes.{IsPassOf};
 
@@ -20,6 +21,8 @@ impl Field {
         gate: &G,
     )
         requires pass { (c : ℕ) × IsPassOf self.now pass.old c caller.old }
+        ensures same { (pass.new.id ≡ pass.old.id) × (pass.new.number ≡ pass.old.number) }
+        ensures seen { (rest : List Entry) × (pass.new.view.seen ≡ pass.old.view.seen ++ rest) }
         ensures pass { (c : ℕ) → IsPassOf self.now pass.old c caller.old
             → IsPassOf self.now pass.new c caller.new }
         ensures ended { caller_next caller.new ≡ None }
