@@ -26,4 +26,4 @@ returns-clause-under_way c = λ g o under_way again.
     let next = slice_get_read c.args.tasks.now _ _ c.in-Some-get.task.now refl (ltb-true _ _ (sym looked.lookup.0)) looked.lookup.1 in
     let was = is_under_way g o _ c.in-Some.transition under_way c.in-Some.is in
     subst (λ (t : Option Task). IsUnderWay g t (Some c.again.new.self)) (sym next)
-        (ap (λ (d : TransitionData). d.task) (c.again.ensures.value g was again), c.again.ensures.transition g was again)
+    (ap (λ (d : TransitionData). d.task) (c.again.ensures.value g was again), c.again.ensures.transition g was again)
