@@ -60,19 +60,16 @@ l0 0 1 0x80000003\nl0 1 3 0xf1\nl1 0 0 32 0x9999999999999999\n\
 l1 0 32 1 0x999999999999999b\nl1 0 33 16351 0x9999999999999999\ngen 2m 1 1\n\
 gen 32m 0 1\ngen 512m 0 1\nend\n";
 
-/// Two agents and a processor, each in 512 MB of its own with a lock of its own, so that all
-/// interleavings have one report.
-const APART: &[u8] = b"gpt 1\nspace 4\nmax 0\nlocks 1\nfirst 0\nring 8\ntables 2\nbase 0x80000000\n\
-region 0x0 0x80000000 granule nonsecure\nagent\ndelegate 0x200000 realm\nagent\n\
-delegate 0x20000000 secure\ncpu\nlook 0x40000000 nonsecure\nlook 0x40000000 nonsecure\nend\n";
+/// An agent and a processor in 512 MB each, so that all interleavings have one report.
+const APART: &[u8] = b"gpt 1\nspace 4\nmax 0\nlocks 1\nfirst 0\nring 8\ntables 1\nbase 0x80000000\n\
+region 0x0 0x40000000 granule nonsecure\nagent\ndelegate 0x200000 realm\ncpu\n\
+look 0x20000000 nonsecure\nlook 0x20000000 nonsecure\nend\n";
 
-const APART_REPORT: &[u8] = b"report 1 race\n0.0 done 1 1 1\n1.0 done 1 1 1\n\
-2.0 granted nonsecure 1 cold 64k 0 0\n2.1 granted nonsecure 1 hit 64k 0\nl0 0 1 0x80000003\n\
-l0 1 1 0x80020003\nl0 2 2 0xf1\nl1 0 0 32 0x9999999999999999\nl1 0 32 1 0x999999999999999b\n\
-l1 0 33 8159 0x9999999999999999\nl1 0 8192 1 0x9999999999999998\n\
-l1 0 8193 8191 0x9999999999999999\nl1 1 0 16384 0x9999999999999999\ngen 2m 1 1\n\
-gen 2m 256 1\ngen 32m 0 1\ngen 32m 16 1\ngen 512m 0 1\ngen 512m 1 1\n\
-line 0x40000000 nonsecure\nend\n";
+const APART_REPORT: &[u8] = b"report 1 race\n0.0 done 1 1 1\n\
+1.0 granted nonsecure 1 cold 64k 0 0\n1.1 granted nonsecure 1 hit 64k 0\nl0 0 1 0x80000003\n\
+l0 1 3 0xf1\nl1 0 0 32 0x9999999999999999\nl1 0 32 1 0x999999999999999b\n\
+l1 0 33 16351 0x9999999999999999\ngen 2m 1 1\ngen 32m 0 1\ngen 512m 0 1\n\
+line 0x20000000 nonsecure\nend\n";
 
 /// The head and the regions of a board of four spaces.
 const BOARD: &str = "gpt 1\nspace 4\nmax 512\nlocks 1\nfirst 0\nring 8\ntables 3\nbase 0xc0000000\n\
@@ -231,7 +228,7 @@ fn a_failed_write_cuts_the_text_where_it_comes(rt: HostRuntime) -> Result<(), Fa
         ("tables", SCENARIO, REPORT, 7u64),
         ("tables", BAD_BASE, BASE_LINE, 2),
         ("play", TURNS, TURNS_REPORT, 31),
-        ("race", APART, APART_REPORT, 46),
+        ("race", APART, APART_REPORT, 29),
         ("race", BAD_BASE, BASE_LINE, 2),
     ];
     for (command, input, text, writes) in table {
