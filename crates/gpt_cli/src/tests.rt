@@ -208,15 +208,19 @@ fn a_failed_read_of_a_long_input_leaves_the_sink_empty(rt: HostRuntime) -> Resul
     Ok(())
 }
 
+/// The board with a byte after its end is refused before a caller runs.
 #[test]
 fn a_race_reads_as_often_as_another_command(rt: HostRuntime) -> Result<(), Fail> {
     let alloc = rt.alloc();
-    let mut source = source(alloc, &board(alloc)?, 16)?;
-    let mut sink = sink(alloc, 65_671, 0)?;
-    assert_eq!(rt; status(&rt, alloc, &["race"], &mut source, &mut sink), 0);
-    assert_eq!(rt; source.reads(), 15);
-    assert!(rt; sink.taken().starts_with(b"report 1 race\n0.0 done 1 1 1\n"));
-    assert!(rt; sink.taken().ends_with(b"\nline 0x800f9000 nonsecure\nend\n"));
+    let mut input = board(alloc)?;
+    input.push(b'x')?;
+    for command in ["tables", "play", "race"] {
+        let mut source = source(alloc, &input, 16)?;
+        let mut sink = sink(alloc, 20, 0)?;
+        assert_eq!(rt; status(&rt, alloc, &[command], &mut source, &mut sink), 1);
+        assert_eq!(rt; sink.taken(), b"line 2020: after\n".as_slice());
+        assert_eq!(rt; source.reads(), 15);
+    }
     Ok(())
 }
 
