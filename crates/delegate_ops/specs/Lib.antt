@@ -9,3 +9,4 @@ pub mod InnerScript
 pub mod InnerEntries
 pub mod InnerRuns
 pub mod InnerTurns
+pub mod Parts

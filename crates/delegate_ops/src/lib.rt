@@ -12,6 +12,7 @@ mod agent;
 mod blocks;
 mod changing;
 mod deciding;
+mod parts;
 mod places;
 mod progress;
 mod refused;
@@ -22,7 +23,9 @@ mod tests;
 mod transition;
 
 pub use agent::Agent;
+pub use deciding::idle_answer;
 pub use history::{Answer, Task};
+pub use parts::{Parts, is_sound};
 pub use places::Places;
 pub use progress::{Progress, Turned};
 pub use refused::refused_calls_change_nothing;

@@ -1,5 +1,5 @@
 ghost use Rattle.std.specs.Prelude.{◌≡◌, ◌+◌, ◌^◌, ◌<◌, ◌≤◌, ◌==◌, not, if◌then◌else◌, IsSome};
-ghost use Rattle.std.specs.Prelude.{IsTrue, is_some, None, Some, false, length};
+ghost use Rattle.std.specs.Prelude.{IsTrue, ◌↔◌, is_some, None, Some, false, length};
 ghost use Rattle.std.specs.Int.Bits.{bit_and};
 ghost use Rattle.gpt_descriptors.specs.Entries.{l1_entry, word_gpi};
 ghost use Rattle.gpt_descriptors.specs.Places.{GeometryData, l1_index_of};
@@ -606,11 +606,10 @@ impl Progress {
     }
 }
 
-#[cfg(test)]
 impl Progress {
     /// Whether the next act may answer `old`: one that looks at an L1 word answers a descriptor.
     pub fn may_take(&self, old: u64) -> bool
-        ensures { IsTrue result → IsReadable (stage_of self.now) old }
+        ensures { IsTrue result ↔ IsReadable (stage_of self.now) old }
     {
         !matches!(self.phase, Phase::Looking) || decode_l1(old).is_some()
     }

@@ -1,4 +1,4 @@
-ghost use Rattle.std.specs.Prelude.{◌≡◌, ◌+◌, ◌^◌, ◌<◌, ◌≤◌, ℕ, IsTrue, None, false};
+ghost use Rattle.std.specs.Prelude.{◌≡◌, ◌+◌, ◌^◌, ◌<◌, ◌≤◌, ℕ, IsTrue, None, false, ◌↔◌};
 ghost use Rattle.gpt_descriptors.specs.Places.{GeometryData};
 ghost use Rattle.shared_words.specs.Next.{old_by, words_after, MayBeMade};
 ghost use Rattle.delegate_ops.specs.Deciding.{idle_answer};
@@ -169,11 +169,10 @@ impl Transition {
     }
 }
 
-#[cfg(test)]
 impl Transition {
     /// Whether the next act may answer `old`: one that looks at an L1 word answers a descriptor.
     pub fn may_take(&self, old: u64) -> bool
-        ensures { IsTrue result → IsReadable self.now.stage old }
+        ensures { IsTrue result ↔ IsReadable self.now.stage old }
     {
         self.progress.may_take(old)
     }
