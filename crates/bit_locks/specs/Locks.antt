@@ -1,9 +1,9 @@
 -- The locks of the protected space, and their bits in the lock words (TF-A gpt_rme, bitlocks).
-use Rattle.std.specs.Prelude.{◌≡◌, ℕ, ◌/◌, ◌%◌, ◌^◌, List, slice_index, Bool, ◌&&◌, ◌==◌, nat_lt, if◌then◌else◌}
+use Rattle.std.specs.Prelude.{◌≡◌, ℕ, ◌/◌, ◌%◌, ◌^◌, List, slice_index, ◌==◌, if◌then◌else◌}
 use Rattle.std.specs.Int.{bit_at, bit_not, w64}
 use Rattle.std.specs.Int.Bits.{bit_and}
 use Rattle.gpt_descriptors.specs.declared.size.Size.TheVariants as size
-use Rattle.gpt_descriptors.specs.Sizes.{SetupData, size_bytes, space_bytes}
+use Rattle.gpt_descriptors.specs.Sizes.{SetupData, size_bytes}
 use Rattle.shared_words.specs.declared.act.Act.{Act}
 use Rattle.shared_words.specs.declared.act.Act.TheVariants as act
 use Rattle.bit_locks.specs.declared.lock.Bit.{Bit}
@@ -11,10 +11,6 @@ use Rattle.bit_locks.specs.declared.lock.Bit.{Bit}
 -- the number of the lock of an address: one for all, or one for each `lock_blocks` blocks of 512 MB
 abbrev pub lock_number : SetupData → ℕ → ℕ
 lock_number s pa = if s.lock_blocks == 0 then 0 else pa / size_bytes size.FiveTwelve / s.lock_blocks
-
--- the lock block of a lock: all addresses of the protected space that have it
-abbrev pub in_lock_block : SetupData → ℕ → ℕ → Bool
-in_lock_block s n pa = nat_lt pa (space_bytes s) && (lock_number s pa == n)
 
 -- lock n is bit n % 64 of word n / 64
 abbrev pub bit_with : ℕ → Bit

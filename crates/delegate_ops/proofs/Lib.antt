@@ -1,5 +1,6 @@
 pub mod DecidingLemmas
 pub mod AgentLemmas
+pub mod AgainLemmas
 pub mod StartLemmas
 pub mod BlockLemmas
 pub mod ScriptLemmas

@@ -1,6 +1,7 @@
 ghost use Rattle.std.specs.Prelude.{◌≡◌, ℕ, ◌<◌, ◌^◌, ◌+◌, ◌-◌, ◌≤◌, ◌++◌, IfOk, IfSome, IsSome};
 ghost use Rattle.std.specs.Prelude.{IsTrue, is_some, not, Some, None, length, drop, false};
-ghost use Rattle.std.specs.Prelude.{slice_get, vec_capacity};
+ghost use Rattle.std.specs.Prelude.{slice_get, vec_capacity, Option};
+ghost use Rattle.gpt_descriptors.specs.Places.{GeometryData};
 ghost use Rattle.std.specs.List.{All};
 ghost use Rattle.std.specs.Option.{option_map};
 ghost use Rattle.delegate_ops.specs.Deciding.{idle_answer};
@@ -120,6 +121,30 @@ fn begin(
     }
 }
 
+/// The transition of the first task without an answer before its first act, at the places of the
+/// one before. Whether that is so: it is where there is such a task, and it moves the granule at the
+/// same address. Else the transition is as it was.
+#[inline(always)]
+fn begin_again(tasks: &[Task], answers: &[Answer], transition: &mut Option<Transition>) -> bool
+    ensures acts { (g : GeometryData) → (o : Option Task) → IsUnderWay g o transition.old
+        → IsTrue result → HasActs g (slice_get tasks.now (length answers.now)) }
+    ensures value { (g : GeometryData) → (o : Option Task) → IsUnderWay g o transition.old
+        → IsTrue result → transition.new
+        ≡ option_map (begun g) (slice_get tasks.now (length answers.now)) }
+    ensures under_way { (g : GeometryData) → (o : Option Task) → IsUnderWay g o transition.old
+        → IsTrue result
+        → IsUnderWay g (slice_get tasks.now (length answers.now)) transition.new }
+    ensures not { result ≡ false → transition.new ≡ transition.old }
+{
+    let Some(transition) = transition else {
+        return false;
+    };
+    let Some(task) = tasks.get(answers.len()) else {
+        return false;
+    };
+    transition.again(*task)
+}
+
 impl Agent {
     /// An agent before its first act. Its leading tasks without acts are answered.
     pub fn new(alloc: Global, geometry: Geometry, tasks: Vec<Task>) -> Result<Agent, AllocError>
@@ -156,6 +181,9 @@ impl Agent {
         ensures { self.new ≡ after_answer self.old answer }
     {
         self.answers.push_reserved(answer);
+        if begin_again(&self.tasks, &self.answers, &mut self.transition) {
+            return;
+        }
         answer_idle(&self.geometry, &self.tasks, &mut self.answers);
         begin(
             &self.geometry,

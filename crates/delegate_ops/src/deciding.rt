@@ -1,6 +1,7 @@
-ghost use Rattle.std.specs.Prelude.{◌≡◌};
+ghost use Rattle.std.specs.Prelude.{◌≡◌, IsTrue};
 ghost use Rattle.history.specs.Legality.{needed};
 ghost use Rattle.delegate_ops.specs.Deciding.{address_of, is_unusable, idle_answer, is_needed, worn_size};
+ghost use Rattle.delegate_ops.specs.InnerTransition.{IsMove};
 
 use gpi_values::{Gpi, nibble};
 use gpt_descriptors::{Generations, Geometry, Size, is_worn};
@@ -13,6 +14,16 @@ pub fn address_of(task: Task) -> u64
     match task {
         Task::Delegate(pa, _) | Task::Undelegate(pa, _) | Task::Look(pa, _) => pa,
         Task::Unknown => 0,
+    }
+}
+
+/// Whether a task moves the granule at this byte address.
+pub fn moves_at(task: Task, at: u64) -> bool
+    ensures { IsTrue result → IsMove task × (address_of task ≡ at) }
+{
+    match task {
+        Task::Delegate(pa, _) | Task::Undelegate(pa, _) => pa == at,
+        Task::Unknown | Task::Look(_, _) => false,
     }
 }
 

@@ -1,3 +1,6 @@
+ghost use Rattle.std.specs.Prelude.{◌≡◌, false};
+ghost use Rattle.delegate_ops.specs.InnerAgents.{is_look};
+
 use super::*;
 use gpi_values::{Gpi, Source};
 use gpt_descriptors::{Generations, Geometry, MaxBlock, Setup, Size, l0_good};
@@ -575,6 +578,72 @@ fn an_unknown_call_is_answered_without_acts(rt: HostRuntime) -> Result<(), Fail>
         agent.answers(),
         [Answer::Unknown, Answer::Perm(Gpi::Secure), Answer::Unknown].as_slice()
     );
+    Ok(())
+}
+
+/// Whether an agent that makes the delegate at address 0, and then this call, begins it with these acts,
+/// and has an answer to it before them where it is one without acts.
+fn follows(alloc: Global, next: Task, acts: [Option<Act>; 2], idle: bool) -> Result<bool, Fail>
+    requires { is_look next ≡ false }
+{
+    let mut words = started(alloc, SECURE)?;
+    let tasks = vec![in alloc; DELEGATE, next]?;
+    let mut agent = Agent::new(alloc, one_table(MaxBlock::FiveTwelve)?, tasks)?;
+    for _ in 0..3 {
+        step(&mut agent, &mut words);
+    }
+    let mut same = agent.answers().len() == if idle { 2 } else { 1 };
+    for act in acts {
+        same = same && agent.next() == act;
+        step(&mut agent, &mut words);
+    }
+    Ok(same)
+}
+
+#[test]
+fn each_call_acts_at_its_own_places(rt: HostRuntime) -> Result<(), Fail> {
+    let alloc = rt.alloc();
+    let here = [Some(LOCK), Some(LOOK)];
+    // The second granule of the same L1 word, the first one of the next word, and the first one of
+    // the second 512 MB.
+    let next_word = [Some(LOCK), Some(Act::Load(2188))];
+    let second = [Some(Act::Or(0, 2)), Some(Act::Load(10379))];
+    assert!(rt; follows(alloc, DELEGATE, here, false)?);
+    assert!(rt; follows(alloc, UNDELEGATE, here, false)?);
+    assert!(rt; follows(alloc, Task::Delegate(0x1000, Source::Secure), here, false)?);
+    assert!(rt;
+        follows(
+            alloc,
+            Task::Undelegate(0x1_0000, Source::Realm),
+            next_word,
+            false
+        )?
+    );
+    assert!(rt;
+        follows(
+            alloc,
+            Task::Delegate(0x2000_0000, Source::Realm),
+            second,
+            false
+        )?
+    );
+    assert!(rt;
+        follows(
+            alloc,
+            Task::Delegate(0x800, Source::Realm),
+            [None, None],
+            true
+        )?
+    );
+    assert!(rt;
+        follows(
+            alloc,
+            Task::Undelegate(0x4000_0000, Source::Realm),
+            [None, None],
+            true
+        )?
+    );
+    assert!(rt; follows(alloc, Task::Unknown, [None, None], true)?);
     Ok(())
 }
 

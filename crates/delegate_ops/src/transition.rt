@@ -6,6 +6,7 @@ ghost use Rattle.delegate_ops.specs.InnerAgents.{IsReadable, is_look};
 ghost use Rattle.delegate_ops.specs.InnerTransition.{IsTransition, begun, next_by, answer_by, after_by, turned_by};
 ghost use Rattle.delegate_ops.specs.InnerRuns.{IsStoring, MakesRun};
 
+use crate::deciding::{address_of, moves_at};
 use crate::places::Places;
 use crate::progress::{Progress, Turned};
 use gpt_descriptors::Geometry;
@@ -55,6 +56,28 @@ impl Transition {
         self.task = task;
         self.places = Places::new(geometry, task);
         self.progress.restart();
+    }
+
+    /// The transition of another task, before its first act, in the place of this one and at its
+    /// places, where that task moves the granule of the same address. Whether it does: else the
+    /// transition is as it was.
+    #[inline(always)]
+    #[tactic(auto, using(crate::proofs::AgainLemmas::again_acts, crate::proofs::AgainLemmas::again_begun))]
+    pub fn again(&mut self, task: Task) -> bool
+        ensures acts { (g : GeometryData) → IsTransition g self.old → IsTrue result
+            → idle_answer g task ≡ None }
+        ensures value { (g : GeometryData) → IsTransition g self.old → IsTrue result
+            → self.new ≡ begun g task }
+        ensures transition { (g : GeometryData) → IsTransition g self.old → IsTrue result
+            → IsTransition g self.new }
+        ensures not { result ≡ false → self.new ≡ self.old }
+    {
+        if !moves_at(task, address_of(self.task)) {
+            return false;
+        }
+        self.task = task;
+        self.progress.restart();
+        true
     }
 
     /// The next act. The geometry is that for which it was made.

@@ -119,6 +119,17 @@ begin_of a = record {
 abbrev pub fuse_of : GeometryData → ℕ → ℕ → FuseData
 fuse_of g i word = begin_of (around_of g i word)
 
+-- around L1 word i of a geometry, of granules of this GPI, at this step
+abbrev pub fuse_at : GeometryData → ℕ → Gpi → Fusing → FuseData
+fuse_at g i v step = record {
+  first = place_of g (Level1 0);
+  own = i;
+  two = words_of g.setup size.Two;
+  max = g.setup.max;
+  gpi = v;
+  step = step;
+}
+
 -- merging around a word has acts where a contiguous size is permitted and the word has sixteen equal
 -- GPIs
 abbrev pub has_acts : MaxBlock → ℕ → Bool

@@ -11,4 +11,5 @@ mod step;
 pub use law::steps_walk_the_script;
 pub use merging::{Fuse, has_acts};
 pub use outcome::Fused;
+pub use step::is_counted;
 pub use table_meaning::Fusing;

@@ -1,11 +1,14 @@
-ghost use Rattle.std.specs.Prelude.{◌≡◌, ◌+◌, ◌*◌, ◌/◌, ◌%◌, ◌^◌, ◌<◌, ◌≤◌, IsSome, IfSome, None, IsTrue};
+ghost use Rattle.std.specs.Prelude.{◌≡◌, ◌+◌, ◌*◌, ◌/◌, ◌%◌, ◌^◌, ◌<◌, ◌≤◌, IsSome, IfSome, None, IsTrue, ◌↔◌};
 ghost use Rattle.gpt_descriptors.specs.Sizes.{space_bytes};
 ghost use Rattle.gpt_descriptors.specs.Places.{IsGeometry, l1_index_of, l1_place_of};
 ghost use Rattle.table_meaning.specs.Fusing.{block_words, loads_of, load_at, store_at};
-ghost use Rattle.fuse.specs.Merging.{next_of, took_of, stored_by, outcome_of, fuse_of, has_acts, AreNext, IsStoring};
+ghost use Rattle.fuse.specs.Merging.{next_of, took_of, stored_by, outcome_of, fuse_of, fuse_at, has_acts, AreNext, IsStoring};
+ghost use Rattle.fuse.specs.Merging.{IsCounted};
+ghost use Rattle.gpt_descriptors.specs.Sizes.{words_of};
+ghost use Rattle.gpt_descriptors.specs.declared.size.Size.TheVariants as size;
 
 use crate::outcome::Fused;
-use crate::step::{begun, beside, block_words, loaded, stored, stored_to};
+use crate::step::{begun, beside, block_words, is_counted, loaded, stored, stored_to};
 use gpt_descriptors::{Geometry, Gpi, L1Entry, MaxBlock, Size, encode_l1, equal_gpi};
 use shared_words::{Act, StoreRun};
 use std::marker::Model;
@@ -200,6 +203,40 @@ impl Fuse {
             Fusing::Ended(Some(size)) => Fused::To(size),
             _ => Fused::No,
         }
+    }
+}
+
+impl Fuse {
+    /// Merging around the L1 word of an address, of granules of this GPI, at this step. It is `None`
+    /// exactly where the step has no load or store of its number.
+    pub fn at(geometry: &Geometry, pa: u64, gpi: Gpi, step: Fusing) -> Option<Fuse>
+        requires inside { pa < space_bytes geometry.now.setup }
+        requires table { IsSome (l1_place_of geometry.now pa) }
+        ensures value { IfSome result (λ f. IfSome (l1_index_of geometry.now pa)
+            (λ i. f ≡ fuse_at geometry.now i gpi step)) }
+        ensures some { IsSome result ↔ IsCounted (words_of geometry.now.setup size.Two) step }
+    {
+        let mut fuse = Fuse::new(geometry, pa, 0);
+        if !is_counted(fuse.two, step) {
+            return None;
+        }
+        fuse.gpi = gpi;
+        fuse.step = step;
+        Some(fuse)
+    }
+
+    /// The test, the stores or the end at which merging is.
+    pub fn step(&self) -> Fusing
+        ensures { result ≡ self.now.step }
+    {
+        self.step
+    }
+
+    /// The GPI of the granules around which it is.
+    pub fn gpi(&self) -> Gpi
+        ensures { result ≡ self.now.gpi }
+    {
+        self.gpi
     }
 }
 

@@ -1,5 +1,6 @@
-ghost use Rattle.std.specs.Prelude.{◌≡◌, ◌+◌, ◌*◌, ◌/◌, ◌^◌, ◌<◌};
+ghost use Rattle.std.specs.Prelude.{◌≡◌, ◌+◌, ◌*◌, ◌/◌, ◌^◌, ◌<◌, IsTrue, ◌↔◌};
 ghost use Rattle.table_meaning.specs.Fusing.{block_words, loads_of, beside, needed_word, test_or_store, passed, failed, loaded, stored, begun};
+ghost use Rattle.fuse.specs.Merging.{IsCounted};
 ghost use Rattle.fuse.specs.InnerRuns.{stored_to};
 
 use gpt_descriptors::{Gpi, L1Entry, MaxBlock, Size, encode_l1, granules_of};
@@ -124,4 +125,16 @@ pub fn stored(two: usize, size: Size, k: usize) -> Fusing
     ensures { result ≡ stored two size k }
 {
     stored_to(two, size, k + 1)
+}
+
+/// Whether a step has a load or a store of its number, where 2 MB have `two` words.
+pub fn is_counted(two: usize, step: Fusing) -> bool
+    requires { 16 * (16 * two) < 2 ^ 64 }
+    ensures { IsTrue result ↔ IsCounted two step }
+{
+    match step {
+        Fusing::Testing(size, k) => k < loads_of(two, size),
+        Fusing::Storing(size, k) => k < block_words(two, size),
+        Fusing::Ended(_) => true,
+    }
 }

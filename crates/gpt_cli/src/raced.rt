@@ -16,7 +16,7 @@ use std::sync::Wait;
 use std::thread::Threads;
 
 /// The report of the scenario's callers, run beside each other on its built tables.
-fn reply_of_race<R: Threads + Wait + Sync, G: Gate + Sync>(
+fn reply_to_prepared_race<R: Threads + Wait + Sync, G: Gate + Sync>(
     rt: &R,
     alloc: Global,
     prepared: Prepared,
@@ -34,7 +34,7 @@ fn reply_of_race<R: Threads + Wait + Sync, G: Gate + Sync>(
 }
 
 /// The reply of `race` to the bytes that were read.
-pub fn race_reply<R: Threads + Wait + Sync, G: Gate + Sync>(
+pub fn reply_to_race<R: Threads + Wait + Sync, G: Gate + Sync>(
     rt: &R,
     alloc: Global,
     bytes: Vec<u8>,
@@ -45,7 +45,7 @@ pub fn race_reply<R: Threads + Wait + Sync, G: Gate + Sync>(
         × (code_of reply.status ≢ code_of status.NoMemory)) }
 {
     match prepare(alloc, bytes) {
-        Ok(prepared) => reply_of_race(rt, alloc, prepared, gate),
+        Ok(prepared) => reply_to_prepared_race(rt, alloc, prepared, gate),
         Err(refusal) => refusal_text(alloc, &refusal),
     }
 }

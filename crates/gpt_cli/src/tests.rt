@@ -60,6 +60,17 @@ l0 0 1 0x80000003\nl0 1 3 0xf1\nl1 0 0 32 0x9999999999999999\n\
 l1 0 32 1 0x999999999999999b\nl1 0 33 16351 0x9999999999999999\ngen 2m 1 1\n\
 gen 32m 0 1\ngen 512m 0 1\nend\n";
 
+/// An agent and a processor in 512 MB each, so that all interleavings have one report.
+const APART: &[u8] = b"gpt 1\nspace 4\nmax 0\nlocks 1\nfirst 0\nring 8\ntables 1\nbase 0x80000000\n\
+region 0x0 0x40000000 granule nonsecure\nagent\ndelegate 0x200000 realm\ncpu\n\
+look 0x20000000 nonsecure\nlook 0x20000000 nonsecure\nend\n";
+
+const APART_REPORT: &[u8] = b"report 1 race\n0.0 done 1 1 1\n\
+1.0 granted nonsecure 1 cold 64k 0 0\n1.1 granted nonsecure 1 hit 64k 0\nl0 0 1 0x80000003\n\
+l0 1 3 0xf1\nl1 0 0 32 0x9999999999999999\nl1 0 32 1 0x999999999999999b\n\
+l1 0 33 16351 0x9999999999999999\ngen 2m 1 1\ngen 32m 0 1\ngen 512m 0 1\n\
+line 0x20000000 nonsecure\nend\n";
+
 /// The head and the regions of a board of four spaces.
 const BOARD: &str = "gpt 1\nspace 4\nmax 512\nlocks 1\nfirst 0\nring 8\ntables 3\nbase 0xc0000000\n\
 region 0xc0000000 0x40000000 block root\nregion 0x0 0x40000000 granule secure\n\
@@ -177,7 +188,7 @@ fn a_failed_read_of_a_long_input_leaves_the_sink_empty(rt: HostRuntime) -> Resul
     let input = board(alloc)?;
     assert_eq!(rt; input.len(), 53_769);
     // Fourteen pieces, and the end.
-    for command in ["tables", "play"] {
+    for command in ["tables", "play", "race"] {
         for failing in 1..=15u64 {
             let mut source = source(alloc, &input, failing)?;
             let mut sink = sink(alloc, BOARD_REPORT.len(), 0)?;
@@ -197,6 +208,22 @@ fn a_failed_read_of_a_long_input_leaves_the_sink_empty(rt: HostRuntime) -> Resul
     Ok(())
 }
 
+/// The board with a byte after its end is refused before a caller runs.
+#[test]
+fn a_race_reads_as_often_as_another_command(rt: HostRuntime) -> Result<(), Fail> {
+    let alloc = rt.alloc();
+    let mut input = board(alloc)?;
+    input.push(b'x')?;
+    for command in ["tables", "play", "race"] {
+        let mut source = source(alloc, &input, 16)?;
+        let mut sink = sink(alloc, 20, 0)?;
+        assert_eq!(rt; status(&rt, alloc, &[command], &mut source, &mut sink), 1);
+        assert_eq!(rt; sink.taken(), b"line 2020: after\n".as_slice());
+        assert_eq!(rt; source.reads(), 15);
+    }
+    Ok(())
+}
+
 #[test]
 fn a_failed_write_cuts_the_text_where_it_comes(rt: HostRuntime) -> Result<(), Fail> {
     let alloc = rt.alloc();
@@ -205,6 +232,8 @@ fn a_failed_write_cuts_the_text_where_it_comes(rt: HostRuntime) -> Result<(), Fa
         ("tables", SCENARIO, REPORT, 7u64),
         ("tables", BAD_BASE, BASE_LINE, 2),
         ("play", TURNS, TURNS_REPORT, 31),
+        ("race", APART, APART_REPORT, 29),
+        ("race", BAD_BASE, BASE_LINE, 2),
     ];
     for (command, input, text, writes) in table {
         for failing in 1..=writes {
@@ -230,6 +259,8 @@ fn a_full_sink_cuts_the_text_at_its_room(rt: HostRuntime) -> Result<(), Fail> {
         ("tables", SCENARIO, REPORT, 0),
         ("tables", BAD_BASE, BASE_LINE, 1),
         ("play", TURNS, TURNS_REPORT, 0),
+        ("race", APART, APART_REPORT, 0),
+        ("race", BAD_BASE, BASE_LINE, 1),
     ];
     for (command, input, text, whole) in table {
         for room in 0..=text.len() {

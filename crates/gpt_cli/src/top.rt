@@ -10,7 +10,7 @@ ghost use Rattle.gpt_cli.specs.declared.reply.Reply.{Reply as TheReply};
 ghost use Rattle.gpt_cli.specs.declared.status.Status.TheVariants as status;
 
 use crate::program::{send, still};
-use crate::raced::race_reply;
+use crate::raced::reply_to_race;
 use crate::status::Status;
 use gpt_io::{Sink, Source};
 use gpt_stream::{INPUT_LIMIT, InputError, read_input};
@@ -54,7 +54,7 @@ fn run_race<R: Threads + Wait + Sync, S: Source, K: Sink, G: Gate + Sync>(
     match read_input(alloc, source) {
         Err(InputError::Fault) => Status::ReadFailed.code(),
         Err(InputError::Memory) => Status::NoMemory.code(),
-        Ok(bytes) => match race_reply(rt, alloc, bytes, gate) {
+        Ok(bytes) => match reply_to_race(rt, alloc, bytes, gate) {
             Ok(reply) => send(sink, reply.status, reply.text.as_slice()).code(),
             Err(AllocError) => Status::NoMemory.code(),
         },

@@ -15,6 +15,10 @@ pub record BarrierData : Type 0 where
 abbrev pub begun : ℕ → BarrierData
 begun cpus = record { passed = 0; cpus = cpus }
 
+-- after it has passed this many processors
+abbrev pub begun_at : ℕ → ℕ → BarrierData
+begun_at cpus passed = record { passed = passed; cpus = cpus }
+
 -- the next load; none after the last processor
 abbrev pub next_load : GeometryData → BarrierData → Option Act
 next_load g d = if nat_lt d.passed d.cpus then Some (barrier_load g d.passed) else None

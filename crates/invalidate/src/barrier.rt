@@ -1,5 +1,5 @@
-ghost use Rattle.std.specs.Prelude.{◌≡◌, ◌<◌, ◌≤◌, ◌==◌, not, nat_lt};
-ghost use Rattle.invalidate.specs.Barrier.{begun, next_load, after_load};
+ghost use Rattle.std.specs.Prelude.{◌≡◌, ◌<◌, ◌≤◌, ◌==◌, not, nat_lt, Some, None, if◌then◌else◌};
+ghost use Rattle.invalidate.specs.Barrier.{begun, begun_at, next_load, after_load};
 
 use gpt_descriptors::Geometry;
 use shared_words::Act;
@@ -67,5 +67,24 @@ impl Barrier {
             self.passed += 1;
         }
         passed
+    }
+
+    /// A barrier over this number of processors that has passed the first `passed` of them.
+    /// It is `None` exactly where there are fewer processors.
+    pub fn at(cpus: u32, passed: u32) -> Option<Barrier>
+        ensures { result ≡ (if nat_lt cpus passed then None else Some (begun_at cpus passed)) }
+    {
+        if cpus < passed {
+            None
+        } else {
+            Some(Barrier { passed, cpus })
+        }
+    }
+
+    /// The number of processors that it has passed.
+    pub fn passed(&self) -> u32
+        ensures { result ≡ self.now.passed }
+    {
+        self.passed
     }
 }

@@ -69,12 +69,12 @@ all_back : {X : Type 0} (P : X → Type 0) (xs ys : List X) → All P (xs ++ ys)
 all_back P [] ys all = all
 all_back P (x ∷ xs) ys all = all_back P xs ys (All-tail P x (xs ++ ys) all)
 
-told_each : (P : List Entry → Type 0) (v : View) (passes : List PassData) (i : ℕ) (p : PassData) → All P (joined_back v passes).told → slice_get passes i ≡ Some p → P p.view.seen
-told_each P v [] i p all at = absurd cc
-told_each P v (r ∷ passes) zero p all at =
+others_each : (P : List Entry → Type 0) (v : View) (passes : List PassData) (i : ℕ) (p : PassData) → All P (joined_back v passes).others_seen → slice_get passes i ≡ Some p → P p.view.seen
+others_each P v [] i p all at = absurd cc
+others_each P v (r ∷ passes) zero p all at =
     let same : r ≡ p = (let both : Some r ≡ Some p = at in cc) in
-    subst (λ (t : PassData). P t.view.seen) same (All-head P r.view.seen r.view.told (all_back P (joined_back v passes).told (r.view.seen ∷ r.view.told) all))
-told_each P v (r ∷ passes) (suc i) p all at = told_each P v passes i p (all_front P (joined_back v passes).told (r.view.seen ∷ r.view.told) all) at
+    subst (λ (t : PassData). P t.view.seen) same (All-head P r.view.seen r.view.others_seen (all_back P (joined_back v passes).others_seen (r.view.seen ∷ r.view.others_seen) all))
+others_each P v (r ∷ passes) (suc i) p all at = others_each P v passes i p (all_front P (joined_back v passes).others_seen (r.view.seen ∷ r.view.others_seen) all) at
 
 -- ---- nothing is left out
 
@@ -217,7 +217,7 @@ has_closed f passes callers words views id v w left rule at is opening all mine 
       opening = ap (λ (t : View). t.opening) view ∙ opens;
       nobody = ap (λ (t : View). t.held) view;
       begins = λ c p there.
-          let begins = told_each (Begins rule.history) v passes c p (subst (λ (t : View). All (Begins rule.history) t.told) is (knows f.opening words views id w callers ended).told) there in
+          let begins = others_each (Begins rule.history) v passes c p (subst (λ (t : View). All (Begins rule.history) t.others_seen) is (knows f.opening words views id w callers ended).others_seen) there in
           (begins.0, sym (sees_whole f.opening words views id w callers ended ∙ seen) ∙ begins.1);
       own = λ c x there. subst (λ (h : List Entry). entries_by c h ≡ own_of c x) seen (is_held f.opening words views id w callers ended c x there).1;
       starting = rule.starting;

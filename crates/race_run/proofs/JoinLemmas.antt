@@ -75,7 +75,7 @@ joined_knows o callers h v w own left right =
     record {
       opening = left.opening;
       seen = long.0;
-      told = All-append (Begins h) v.told (w.seen ∷ w.told) left.told (All-cons (Begins h) w.seen w.told right.seen right.told);
+      others_seen = All-append (Begins h) v.others_seen (w.seen ∷ w.others_seen) left.others_seen (All-cons (Begins h) w.seen w.others_seen right.seen right.others_seen);
       held = λ p a at.
           elim (either_part v.held w.held p a at) [
             | inl there ↦
@@ -144,7 +144,7 @@ join_keeps o id other v w opens also s rule at apart there =
 -- ---- coming
 
 knows_all : (o : Opening) (callers : List Caller) (h : List Entry) → KnowsOf o callers h (nobody o h)
-knows_all o callers h = record { opening = refl; seen = ([], sym (append-nil h)); told = All-nil (Begins h); held = λ p a at. absurd cc }
+knows_all o callers h = record { opening = refl; seen = ([], sym (append-nil h)); others_seen = All-nil (Begins h); held = λ p a at. absurd cc }
 
 -- a view without callers beside the others
 beside_nobody : (views : List View) (w : View) → w.held ≡ [] → HeldOnce views → HeldOnce (views ++ w ∷ [])
@@ -174,7 +174,7 @@ enters o slots i s rule many low =
 
 knows_alone : (o : Opening) (callers : List Caller) (h : List Entry) (v : View) → FitsIn o callers h v → FitsIn o callers h (with_held v [])
 knows_alone o callers h v (inl gone) = inl (gone.0, refl)
-knows_alone o callers h v (inr knows) = inr (record { opening = knows.opening; seen = knows.seen; told = knows.told; held = λ p a at. absurd cc })
+knows_alone o callers h v (inr knows) = inr (record { opening = knows.opening; seen = knows.seen; others_seen = knows.others_seen; held = λ p a at. absurd cc })
 
 pub leaves : (o : Opening) (id : ℕ) (v : View) → Splits {S = ℕ} (λ s. IsRunning o s.words s.views) id v v (with_held v [])
 leaves o id v s rule at =

@@ -69,7 +69,7 @@ opening_runs o words same starting is differ =
           (record {
             opening = refl;
             seen = ([], refl);
-            told = All-nil (Begins []);
+            others_seen = All-nil (Begins []);
             held = λ p a there.
                 let own = numbered_at 0 p o.callers a there in
                 let number : a.0 ≡ p = omega (arith, own.0) in

@@ -57,11 +57,11 @@ part_of views id v u j at =
 
 knows_rest : (o : Opening) (callers : List Caller) (h : List Entry) (v : View) → KnowsOf o callers h v → KnowsOf o callers h (without_first v)
 knows_rest o callers h v knows =
-    record { opening = knows.opening; seen = knows.seen; told = knows.told; held = λ p a at. knows.held (suc p) a (rest_at v.held p a at) }
+    record { opening = knows.opening; seen = knows.seen; others_seen = knows.others_seen; held = λ p a at. knows.held (suc p) a (rest_at v.held p a at) }
 
 knows_first : (o : Opening) (callers : List Caller) (h : List Entry) (v : View) → KnowsOf o callers h v → KnowsOf o callers h (with_first v)
 knows_first o callers h v knows =
-    record { opening = knows.opening; seen = knows.seen; told = knows.told; held = λ p a at. knows.held 0 a (first_at v.held p a at).1 }
+    record { opening = knows.opening; seen = knows.seen; others_seen = knows.others_seen; held = λ p a at. knows.held 0 a (first_at v.held p a at).1 }
 
 abbrev pub FitsIn : Opening → List Caller → List Entry → View → Type 0
 FitsIn o callers h v = IsSpent v ⊎ KnowsOf o callers h v

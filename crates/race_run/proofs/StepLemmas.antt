@@ -100,7 +100,7 @@ module _ (o : Opening) (words : List ℕ) (views : List View) (id c : ℕ) (x : 
   still_given = map_kept role_of callers c x (caller_took x old) mine.0 (took_role x old) ∙ acting.rule.given
 
   abbrev pub after : View
-  after = record { opening = v.opening; seen = (v.seen ++ knows.seen.0) ++ made; told = v.told; held = (c, caller_took x old) ∷ [] }
+  after = record { opening = v.opening; seen = (v.seen ++ knows.seen.0) ++ made; others_seen = v.others_seen; held = (c, caller_took x old) ∷ [] }
 
   -- it has seen all
   sees_all : after.seen ≡ history ++ made
@@ -165,7 +165,7 @@ module _ (o : Opening) (words : List ℕ) (views : List View) (id c : ℕ) (x : 
   knows_after = record {
     opening = acting.opening;
     seen = ([], sym sees_all ∙ sym (append-nil after.seen));
-    told = All-weaker (Begins history) (Begins (history ++ made)) (begins_longer history made) v.told knows.told;
+    others_seen = All-weaker (Begins history) (Begins (history ++ made)) (begins_longer history made) v.others_seen knows.others_seen;
     held = alone_held (IsHeld new_callers after.seen) (c, caller_took x old) (get_set_here callers c x (caller_took x old) mine.0, own_entries);
   }
 
@@ -242,7 +242,7 @@ pub ready_allows : (words slots id c : ℕ) (o : Opening) (x : Caller) (t : Act)
 ready_allows words slots id c o x t me f number ready writes says = step_allows o slots id c x t me f number writes says ready.opening ready.held ready.next
 
 pub ready_acted : (words n c : ℕ) (o : Opening) (x : Caller) (t : Act) (me then : Me ℕ View) → Acted me n then → IsReady words o me.0 c x t → HasActed o c x (said t n) me.0 then.0 × (then.1 ≡ me.1)
-ready_acted words n c o x t me then told ready = told o c x t ready.opening ready.held ready.next
+ready_acted words n c o x t me then others_seen ready = others_seen o c x t ready.opening ready.held ready.next
 
 pub ready_for : (words c : ℕ) (o : Opening) (v : View) (x : Caller) (t u : Act) → t ≡ u → IsReady words o v c x t → IsReady words o v c x u
 ready_for words c o v x t u same ready = subst (IsReady words o v c x) same ready

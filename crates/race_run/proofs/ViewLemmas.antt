@@ -27,7 +27,7 @@ knows_still o callers h made c x v knows others =
     record {
       opening = knows.opening;
       seen = begins_longer h made v.seen knows.seen;
-      told = All-weaker (Begins h) (Begins (h ++ made)) (begins_longer h made) v.told knows.told;
+      others_seen = All-weaker (Begins h) (Begins (h ++ made)) (begins_longer h made) v.others_seen knows.others_seen;
       held = λ p held at. (get_set_other callers c held.0 x (others p held at) ∙ (knows.held p held at).0, (knows.held p held at).1);
     }
 

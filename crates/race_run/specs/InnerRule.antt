@@ -19,13 +19,13 @@ use Rattle.core_machine.specs.InnerOpening.{AreStarting}
 use Rattle.core_machine.specs.InnerFits.{AreMade}
 use Rattle.race_run.specs.declared.view.Opening.{Opening}
 use Rattle.race_run.specs.declared.view.View.{View}
-use Rattle.race_run.specs.declared.rule.Start.{Start}
+use Rattle.race_run.specs.declared.rule.FieldKey.{FieldKey}
 use Rattle.race_run.specs.Passes.{PassData, FieldData, fresh_view}
 use Rattle.race_run.specs.Turns.{HasActed}
 
 -- ---- views
 
-abbrev pub opening_of : Start → Opening
+abbrev pub opening_of : FieldKey → Opening
 opening_of start = record {
   geometry = start.geometry;
   words = start.words.value;
@@ -39,10 +39,10 @@ numbered c (x ∷ callers) = (c, x) ∷ numbered (c + 1) callers
 
 -- all callers, before the first act
 abbrev pub whole : Opening → View
-whole o = record { opening = Some o; seen = []; told = []; held = numbered 0 o.callers }
+whole o = record { opening = Some o; seen = []; others_seen = []; held = numbered 0 o.callers }
 
 abbrev pub with_held : View → List (ℕ × Caller) → View
-with_held v held = record { opening = v.opening; seen = v.seen; told = v.told; held = held }
+with_held v held = record { opening = v.opening; seen = v.seen; others_seen = v.others_seen; held = held }
 
 -- a view without the first of its callers, and one with that caller alone
 abbrev pub without_first : View → View
@@ -61,7 +61,7 @@ fresh_seen f held = (f.id, fresh_view f.opening held)
 
 -- a pass without callers that has seen this much
 abbrev pub nobody : Opening → List Entry → View
-nobody o seen = record { opening = Some o; seen = seen; told = []; held = [] }
+nobody o seen = record { opening = Some o; seen = seen; others_seen = []; held = [] }
 
 -- of two beginnings of one history, the longer one
 abbrev pub longer : List Entry → List Entry → List Entry
@@ -74,12 +74,12 @@ abbrev pub joined : View → View → View
 joined v w = record {
   opening = v.opening;
   seen = longer v.seen w.seen;
-  told = v.told ++ w.seen ∷ w.told;
+  others_seen = v.others_seen ++ w.seen ∷ w.others_seen;
   held = v.held ++ w.held;
 }
 
 abbrev pub spent : View
-spent = record { opening = None; seen = []; told = []; held = [] }
+spent = record { opening = None; seen = []; others_seen = []; held = [] }
 
 -- each is a pass of this field
 abbrev pub AreOf : FieldData → List PassData → Type 0
@@ -111,7 +111,7 @@ IsHeld callers seen held =
 pub record KnowsOf (o : Opening) (callers : List Caller) (h : List Entry) (v : View) : Type 0 where
   pub opening : v.opening ≡ Some o
   pub seen : Begins h v.seen
-  pub told : All (Begins h) v.told
+  pub others_seen : All (Begins h) v.others_seen
   pub held : (p : ℕ) (held : ℕ × Caller) → slice_get v.held p ≡ Some held
       → IsHeld callers v.seen held
 

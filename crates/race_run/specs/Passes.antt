@@ -20,7 +20,7 @@ pub record PassData : Type 0 where
 
 -- the view of a pass with one caller, before its first act
 abbrev pub fresh_view : Opening → ℕ × Caller → View
-fresh_view o held = record { opening = Some o; seen = []; told = []; held = held ∷ [] }
+fresh_view o held = record { opening = Some o; seen = []; others_seen = []; held = held ∷ [] }
 
 -- the pass is one that this field's opening made, or what its turns have made of it; this is its one
 -- caller, made with the field's geometry; and what the pass has seen is the history of a moment

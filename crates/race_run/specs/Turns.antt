@@ -84,7 +84,7 @@ pub record HasActed (o : Opening) (c : ℕ) (x : Caller) (old : ℕ) (v w : View
   pub view : w ≡ record {
     opening = v.opening;
     seen = (v.seen ++ between) ++ made_by c x old;
-    told = v.told;
+    others_seen = v.others_seen;
     held = (c, caller_took x old) ∷ [];
   }
   pub readable : MayTake x old

@@ -12,7 +12,7 @@ ghost use Rattle.race_run.specs.Passes.{AreOpened, IsPassOf};
 ghost use Rattle.race_run.specs.Turns.{HasActed};
 ghost use Rattle.race_run.specs.InnerRule.{whole as whole_view, numbered, seen_of, fresh_seen};
 
-use crate::rule::{FirstCaller, Running, Start};
+use crate::rule::{FieldKey, FirstCaller, Running};
 use crate::step::act_on;
 use crate::view::View;
 use atomic_table::{Seat, Table};
@@ -28,7 +28,7 @@ use table_build::Tables;
 /// consistent.
 #[derive(Drop)]
 pub struct Field {
-    pub(crate) table: Table<u64, View, Start, Running, Global>,
+    pub(crate) table: Table<u64, View, FieldKey, Running, Global>,
 }
 
 impl Model for Field {
@@ -96,12 +96,12 @@ impl Field {
     {
         let words = PlainWords::new(alloc, &geometry, tables.l1())?;
         let mut passes = Vec::with_capacity(alloc, callers.len())?;
-        let start = Start {
+        let key = FieldKey {
             geometry,
             words: Snapshot::of(&words),
             callers: Snapshot::of(callers),
         };
-        let (table, seat) = Table::of_words(alloc, words.words(), &start)?;
+        let (table, seat) = Table::of_words(alloc, words.words(), &key)?;
         let field = Field { table };
         field.deal(seat, callers.len(), &mut passes);
         Ok((field, passes))

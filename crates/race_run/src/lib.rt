@@ -20,5 +20,5 @@ pub use gate::{Gate, OpenGate};
 pub use law::nothing_is_left_at_done;
 pub use opened::Opened;
 pub use racing::race;
-pub use rule::{Running, Start};
+pub use rule::{FieldKey, Running};
 pub use view::{Opening, View};

@@ -88,8 +88,8 @@ impl Field {
             ensures pass { IsPassOf self.entry.now runner.exit.now.pass number runner.exit.now.caller }
             ensures ended { caller_next runner.exit.now.caller ≡ None }
         {
-            let told = u32::try_from(number).unwrap_or(u32::MAX);
-            self.run(rt, told, &mut runner.pass, &mut runner.caller, gate);
+            let number = u32::try_from(number).unwrap_or(u32::MAX);
+            self.run(rt, number, &mut runner.pass, &mut runner.caller, gate);
         };
         for_each_mut(rt, runners.as_mut_slice(), threads, &turns);
     }

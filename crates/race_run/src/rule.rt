@@ -5,10 +5,10 @@ use gpt_descriptors::Geometry;
 use shared_words::PlainWords;
 use std::snapshot::Snapshot;
 
-/// What the table of a field is told when it is made. It has no copy of the words or of the callers:
+/// What the table of a field is made with. It has no copy of the words or of the callers:
 /// contracts alone see them.
 #[derive(Drop)]
-pub struct Start {
+pub struct FieldKey {
     pub(crate) geometry: Geometry,
     pub(crate) words: Snapshot<PlainWords>,
     pub(crate) callers: Snapshot<Vec<Caller>>,
@@ -18,12 +18,12 @@ pub struct Start {
 /// history, of which each pass has seen a prefix.
 pub struct Running;
 
-impl TableRule<u64, View, Start> for Running {
+impl TableRule<u64, View, FieldKey> for Running {
     ghost use Rattle.race_run.specs.InnerRule.{IsRunning, opening_of, whole};
 
-    ghost holds = { λ start s. IsRunning (opening_of start) s.words s.views };
+    ghost holds = { λ key s. IsRunning (opening_of key) s.words s.views };
 
-    ghost first = { λ start. whole (opening_of start) };
+    ghost first = { λ key. whole (opening_of key) };
 }
 
 /// The first of the callers that a pass holds goes to a pass of its own.

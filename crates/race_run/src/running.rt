@@ -11,7 +11,7 @@ use std::sync::Wait;
 
 impl Field {
     /// Turns of a caller until it has no act. After a turn that left it waiting it pauses for a moment. It may wait
-    /// for other callers. The pass and the caller are as for `turn`; `number` is what the gate is told.
+    /// for other callers. The pass and the caller are as for `turn`; the gate is given `number`.
     pub fn run<R: Wait, G: Gate>(
         &self,
         rt: &R,

@@ -3,14 +3,14 @@ ghost use Rattle.core_machine.specs.declared.caller.Caller.{Caller};
 ghost use Rattle.race_run.specs.Turns.{HasActed};
 ghost use Rattle.race_run.specs.InnerRule.{IsReady, opening_of};
 
-use crate::rule::{NextAct, Running, Start};
+use crate::rule::{FieldKey, NextAct, Running};
 use crate::view::View;
 use atomic_table::{Seat, Shared};
 use shared_words::Act;
 
 /// The next act of the one caller of a seat, made on the shared words, and what it answers.
 pub(crate) fn act_on(
-    shared: &Shared<u64, View, Start, Running>,
+    shared: &Shared<u64, View, FieldKey, Running>,
     seat: &mut Seat<u64, View>,
     act: Act,
 ) -> u64

@@ -17,6 +17,6 @@ pub struct Opening {
 pub struct View {
     pub opening: Option<Opening>,
     pub seen: LinkedList<Entry>,
-    pub told: LinkedList<LinkedList<Entry>>,
+    pub others_seen: LinkedList<LinkedList<Entry>>,
     pub held: LinkedList<(u64, Caller)>,
 }

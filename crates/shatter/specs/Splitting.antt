@@ -47,6 +47,17 @@ started first own gpi words two = record {
   two = two;
 }
 
+-- after this many stores
+abbrev pub started_at : ℕ → ℕ → Gpi → ℕ → ℕ → ℕ → SplittingData
+started_at first own gpi words two made = record {
+  first = first;
+  own = own;
+  gpi = gpi;
+  made = made;
+  words = words;
+  two = two;
+}
+
 -- store j of a splitting, and all of them, in rising order of places
 abbrev pub store_of : SplittingData → ℕ → Act
 store_of d j = act.Store (d.first + j) (split_word d.two d.own d.gpi j)

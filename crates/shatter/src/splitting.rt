@@ -1,5 +1,5 @@
-ghost use Rattle.std.specs.Prelude.{◌≡◌, ◌+◌, ◌-◌, ◌*◌, ◌/◌, ◌^◌, ◌<◌, ◌≤◌, ◌==◌, ℕ, not, nat_lt, IsSome};
-ghost use Rattle.shatter.specs.Splitting.{split_word, started, next_store, advanced, advanced_by, AreNext};
+ghost use Rattle.std.specs.Prelude.{◌≡◌, ◌+◌, ◌-◌, ◌*◌, ◌/◌, ◌^◌, ◌<◌, ◌≤◌, ◌==◌, ℕ, not, nat_lt, IsSome, Some, None, if◌then◌else◌};
+ghost use Rattle.shatter.specs.Splitting.{split_word, started, started_at, next_store, advanced, advanced_by, AreNext};
 
 use gpt_descriptors::{Gpi, L1Entry, Size, encode_l1, granules_of};
 use shared_words::{Act, StoreRun};
@@ -180,5 +180,37 @@ impl Splitting {
         ensures { result ≡ not (nat_lt self.now.made self.now.words) }
     {
         self.made >= self.words
+    }
+
+    /// The splitting that `new` makes, after this number of stores. It is `None` exactly where the
+    /// block hasn't as many words.
+    pub fn at(
+        first: usize,
+        own: usize,
+        gpi: Gpi,
+        words: usize,
+        two: usize,
+        made: u64,
+    ) -> Option<Splitting>
+        requires own { own < words }
+        requires room { first + words < 2 ^ 64 }
+        requires two { (0 < two) × (16 * two < 2 ^ 64) }
+        ensures { result ≡ (if nat_lt words made then None
+            else Some (started_at first own gpi words two made)) }
+    {
+        let made = made as usize;
+        if words < made {
+            return None;
+        }
+        let mut splitting = Splitting::new(first, own, gpi, words, two);
+        splitting.made = made;
+        Some(splitting)
+    }
+
+    /// The number of stores that were made.
+    pub fn made(&self) -> u64
+        ensures { result ≡ self.now.made }
+    {
+        self.made as u64
     }
 }

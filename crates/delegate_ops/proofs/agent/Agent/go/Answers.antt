@@ -1,4 +1,4 @@
-use Rattle.std.proofs.Common.{◌<◌, sym, subst, arith}
+use Rattle.std.proofs.Common.{sym, subst, arith}
 use Rattle.delegate_ops.specs.InnerTurns.{MayTurn}
 use Rattle.delegate_ops.proofs.TurnLemmas.{turned_more}
 use Rattle.delegate_ops.proofs.agent.Agent.go.Goals as goal

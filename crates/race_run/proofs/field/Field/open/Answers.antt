@@ -6,7 +6,7 @@ use Rattle.core_machine.specs.InnerCallers.{IsFresh}
 use Rattle.core_machine.specs.InnerInvariant.{NumbersDiffer}
 use Rattle.core_machine.specs.InnerOpening.{AreStarting}
 use Rattle.gpt_descriptors.specs.Places.{GeometryData}
-use Rattle.race_run.specs.declared.rule.Start.{Start}
+use Rattle.race_run.specs.declared.rule.FieldKey.{FieldKey}
 use Rattle.race_run.specs.declared.view.Opening.{Opening}
 use Rattle.race_run.specs.Passes.{FieldData}
 use Rattle.race_run.specs.Turns.{IsMoment}
@@ -28,10 +28,10 @@ of_words-requires c =
 pub returns-clause-passes : goal.returns-clause-passes
 returns-clause-passes c =
     let key = c.in_ok-table.ensures.5 in
-    let callers : c.in_ok-table.table.shared.key.callers.value.items ≡ c.args.callers.now.items = ap (λ (start : Start). start.callers.value.items) key ∙ ap (λ v. v.items) c.of-2.ensures in
-    let geometry : c.in_ok-table.table.shared.key.geometry ≡ c.args.geometry = ap (λ (start : Start). start.geometry) key in
+    let callers : c.in_ok-table.table.shared.key.callers.value.items ≡ c.args.callers.now.items = ap (λ (key : FieldKey). key.callers.value.items) key ∙ ap (λ v. v.items) c.of-2.ensures in
+    let geometry : c.in_ok-table.table.shared.key.geometry ≡ c.args.geometry = ap (λ (key : FieldKey). key.geometry) key in
     let words : c.in_ok-table.table.shared.key.words.value ≡ start_words c.args.geometry c.args.tables.now.l1 =
-    ap (λ (start : Start). start.words.value) key ∙ c.of.ensures ∙ c.in_ok-words.ensures.words ∙ ap (start_words c.args.geometry) c.l1.ensures.words in
+    ap (λ (key : FieldKey). key.words.value) key ∙ c.of.ensures ∙ c.in_ok-words.ensures.words ∙ ap (start_words c.args.geometry) c.l1.ensures.words in
     let opening : opening_of c.in_ok-table.table.shared.key ≡ record { geometry = c.args.geometry; words = start_words c.args.geometry c.args.tables.now.l1; callers = c.args.callers.now.items } =
     λ i. record { geometry = geometry i; words = words i; callers = callers i } in
     let f : FieldData = record { id = c.in_ok-table.table.shared.table_id; opening = opening_of c.in_ok-table.table.shared.key } in
