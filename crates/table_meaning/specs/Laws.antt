@@ -1,12 +1,12 @@
--- The laws of canonical words: what a change of one granule moves, splitting and merging at every
+-- The laws of tables: that they mean one map alone, what a change of one granule moves, splitting and merging at every
 -- store and at their end, and the size that merging finds.
-use Rattle.std.specs.Prelude.{◌≡◌, ◌≢◌, ℕ, ◌*◌, ◌/◌, ◌%◌, ◌≤◌, List, length, slice_index, Option, Some, None}
+use Rattle.std.specs.Prelude.{◌≡◌, ◌≢◌, ℕ, ◌*◌, ◌/◌, ◌%◌, ◌<◌, ◌≤◌, List, length, slice_index, Option, Some, None}
 use Rattle.gpi_values.specs.declared.gpi.Gpi.{Gpi}
 use Rattle.gpi_values.specs.Values.{value_of}
 use Rattle.gpt_descriptors.specs.declared.size.Size.{Size}
 use Rattle.gpt_descriptors.specs.declared.size.Size.TheVariants as size
 use Rattle.gpt_descriptors.specs.declared.entry.L1Entry.TheVariants as l1
-use Rattle.gpt_descriptors.specs.Sizes.{SetupData, words_of, table_words}
+use Rattle.gpt_descriptors.specs.Sizes.{SetupData, words_of, table_words, space_granules}
 use Rattle.gpt_descriptors.specs.Entries.{l1_entry}
 use Rattle.gpt_descriptors.specs.Fields.{with_field, granules_of}
 use Rattle.gpt_descriptors.specs.Canonical.{largest_block, canonical_word}
@@ -15,6 +15,14 @@ use Rattle.table_meaning.specs.Meaning.{BlocksMean, TablesMean, AreCanonicalApar
 use Rattle.table_meaning.specs.Splitting.{stored_apart, others_apart}
 use Rattle.table_meaning.specs.Merging.{Finds}
 use Rattle.table_meaning.specs.Stores.{after_splitting, after_merging}
+
+-- ---- meaning
+
+-- tables mean one map alone, over the granules of the space
+abbrev pub MeanOneMap : Type 0
+MeanOneMap =
+    (s : SetupData) (l0 words : List ℕ) (m l : ℕ → Gpi) (granule : ℕ) → granule < space_granules s
+    → TablesMean s l0 words m → TablesMean s l0 words l → m granule ≡ l granule
 
 -- ---- a change
 

@@ -3,7 +3,7 @@ ghost use Rattle.gpi_values.specs.declared.gpi.Gpi.{Gpi};
 ghost use Rattle.gpt_descriptors.specs.Sizes.{SetupData, table_words};
 ghost use Rattle.gpt_descriptors.specs.Level0.{table_count};
 ghost use Rattle.table_meaning.specs.Meaning.{BlocksMean, AreCanonicalApart, TablesMean};
-ghost use Rattle.table_meaning.specs.Laws.{ChangeOfOwn, ChangeBeside, ChangeElsewhere, SplittingKeeps, SplittingEnds, MergingFinds, NothingToMerge, MergingKeeps, MergingEnds};
+ghost use Rattle.table_meaning.specs.Laws.{MeanOneMap, ChangeOfOwn, ChangeBeside, ChangeElsewhere, SplittingKeeps, SplittingEnds, MergingFinds, NothingToMerge, MergingKeeps, MergingEnds};
 
 /// The law of canonical tables: where each L1 word is a canonical word of the map, apart from a
 /// granule or not, and each L0 block has the map's GPI, the tables mean the map.
@@ -11,6 +11,12 @@ pub fn canonical_tables_mean_their_map()
     ensures { (s : SetupData) (l0 l1 : List ℕ) (m : ℕ → Gpi) (apart : ℕ → Option ℕ)
         → length l1 ≡ table_count l0 * table_words s → BlocksMean s l0 m
         → AreCanonicalApart s l0 l1 m apart → TablesMean s l0 l1 m }
+{}
+
+/// The law of meaning: two maps that the same tables mean have the same GPI for each granule of the
+/// space, so that what is said of the map of some tables is said of all of it.
+pub fn tables_mean_one_map()
+    ensures { MeanOneMap }
 {}
 
 /// The law of a change: of the words that are canonical apart from the changed granule its own

@@ -8,5 +8,5 @@ mod law;
 pub use fusing::Fusing;
 pub use law::{
     a_change_moves_one_word, canonical_tables_mean_their_map, merging_makes_words_canonical,
-    splitting_keeps_canonical_words,
+    splitting_keeps_canonical_words, tables_mean_one_map,
 };
