@@ -1,5 +1,5 @@
--- The laws of tables: that they mean one map alone, what a change of one granule moves, splitting and merging at every
--- store and at their end, and the size that merging finds.
+-- The laws of tables: that they mean one map alone, what a change of one granule moves, splitting
+-- and merging at every store and at their end, and the size that merging finds.
 use Rattle.std.specs.Prelude.{◌≡◌, ◌≢◌, ℕ, ◌*◌, ◌/◌, ◌%◌, ◌<◌, ◌≤◌, List, length, slice_index, Option, Some, None}
 use Rattle.gpi_values.specs.declared.gpi.Gpi.{Gpi}
 use Rattle.gpi_values.specs.Values.{value_of}
