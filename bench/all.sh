@@ -26,6 +26,8 @@ failed=0
     "$here/load.py" "$program" "$runs" || echo "above a limit: load"
     echo
     "$here/race.sh" "$program" "$runs" || echo "above a limit: race"
+    echo
+    "$here/scale.py" "$program" "$runs" || echo "above a limit: scale"
 } | tee "$output"
 echo
 grep -E ' at most |above a limit' "$output"
